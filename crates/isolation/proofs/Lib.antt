@@ -1,0 +1,4 @@
+pub mod Carries
+pub mod Determined
+pub mod Lists
+pub mod Reading
