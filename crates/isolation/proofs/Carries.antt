@@ -61,6 +61,7 @@ module _ (m V : List Bool) where
           ap (λ l. getD l (length vs) false) (sym h)
           ∙ carry-before (bits m) cs (more-fresh c k) (vs ++ (carried (bits m) c k vs ∷ [])) (length vs) false i
           ∙ getD-end vs (carried (bits m) c k vs) false
+
       here : (c : Driver) → carry (bits m) cs (more-fresh c k) (vs ++ (carried (bits m) c k vs ∷ [])) ≡ V → carried (reread V) c k vs ≡ carried (bits m) c k vs
       here fresh h = there fresh h
       here (stored a) h = there (stored a) h

@@ -46,7 +46,7 @@ module _ (U V : List Bool) where
   Known rs us ss = (w : ℕ) → Agree (getD ss w no-wire) U V → getD rs w false ≡ getD us w false
 
   pub known-step : (rs us : List Bool) (ss : List Wires) (a b : Bool) (s : Wires) → length rs ≡ length ss → length us ≡ length ss → Known rs us ss
-    → (Agree s U V → a ≡ b) → Known (rs ++ (a ∷ [])) (us ++ (b ∷ [])) (ss ++ (s ∷ []))
+      → (Agree s U V → a ≡ b) → Known (rs ++ (a ∷ [])) (us ++ (b ∷ [])) (ss ++ (s ∷ []))
   known-step rs us ss a b s hr hu known new w g = here (ℕ-discrete w (length ss))
     where
       here : Dec (w ≡ length ss) → getD (rs ++ (a ∷ [])) w false ≡ getD (us ++ (b ∷ [])) w false
@@ -63,7 +63,7 @@ module _ (U V : List Bool) where
           ∙ sym (getD-not-end us b false w (λ f. e (f ∙ hu)))
 
   pub known-look : (rs us : List Bool) (ss : List Wires) → Known rs us ss → (os : List ℕ) → Agree (union (map (λ o. getD ss o no-wire) os)) U V
-    → map (λ o. getD rs o false) os ≡ map (λ o. getD us o false) os
+      → map (λ o. getD rs o false) os ≡ map (λ o. getD us o false) os
   known-look rs us ss known [] g = refl
   known-look rs us ss known (o ∷ os) g =
       let a = known o (λ w h. g w (or-left (getD ss o no-wire w) (union (map (λ o. getD ss o no-wire) os) w) h)) in
@@ -71,19 +71,21 @@ module _ (U V : List Bool) where
       cc
 
   pub known-carry : (cs : List Driver) (k : ℕ) (rs us : List Bool) (ss : List Wires) → length rs ≡ length ss → length us ≡ length ss → Known rs us ss
-    → Known (carry (reread U) cs k rs) (carry (reread V) cs k us) (carry probes cs k ss)
+      → Known (carry (reread U) cs k rs) (carry (reread V) cs k us) (carry probes cs k ss)
   known-carry [] k rs us ss hr hu known = known
   known-carry (c ∷ cs) k rs us ss hr hu known =
       let a = carried (reread U) c k rs in
       let b = carried (reread V) c k us in
       let s = carried probes c k ss in
       known-carry cs (more-fresh c k) (rs ++ (a ∷ [])) (us ++ (b ∷ [])) (ss ++ (s ∷ []))
-        (longer rs ss a s hr) (longer us ss b s hu) (known-step rs us ss a b s hr hu known (new c))
+      (longer rs ss a s hr) (longer us ss b s hu) (known-step rs us ss a b s hr hu known (new c))
     where
       longer : (rs : List Bool) (ss : List Wires) (a : Bool) (s : Wires) → length rs ≡ length ss → length (rs ++ (a ∷ [])) ≡ length (ss ++ (s ∷ []))
       longer rs ss a s h = let x = length-append rs (a ∷ []) in let y = length-append ss (s ∷ []) in omega arith
+
       itself : Agree (alone (length ss)) U V → getD U (length rs) false ≡ getD V (length us) false
       itself g = ap (λ i. getD U i false) hr ∙ g (length ss) (self-alone (length ss)) ∙ ap (λ i. getD V i false) (sym hu)
+
       new : (c : Driver) → Agree (carried probes c k ss) U V → carried (reread U) c k rs ≡ carried (reread V) c k us
       new fresh g = itself g
       new (stored o) g = itself g
@@ -94,16 +96,19 @@ abbrev pub replay : Circuit → List Bool → List Bool
 replay net V = carry (reread V) (net .drivers) 0 (take (2 * net .inputs) V)
 
 pub determined : (net : Circuit) (U V : List Bool) → length U ≡ wire-count net → length V ≡ wire-count net → (w : ℕ) → Agree (seen net w) U V
-  → getD (replay net U) w false ≡ getD (replay net V) w false
+    → getD (replay net U) w false ≡ getD (replay net V) w false
 determined net U V hU hV =
     known-carry U V (net .drivers) 0 (take n U) (take n V) (alone-from 0 n) (long U hU) (long V hV) (λ w g. start w g (decLt w n))
   where
     n : ℕ
     n = 2 * net .inputs
+
     long : (U : List Bool) → length U ≡ wire-count net → length (take n U) ≡ length (alone-from 0 n)
     long U h = length-take-le n U (omega arith) ∙ sym (length-alone-from 0 n)
+
     past : (U : List Bool) (w : ℕ) → n ≤ w → getD (take n U) w false ≡ false
     past U w h = List·getD-eq-default (take n U) false (omega (arith, length-take n U))
+
     start : (w : ℕ) → Agree (getD (alone-from 0 n) w no-wire) U V → Dec (w < n) → getD (take n U) w false ≡ getD (take n V) w false
     start w g (yes h) =
         let e : getD (alone-from 0 n) w no-wire ≡ alone w = getD-alone-from 0 n w h ∙ ap alone (zero-add w) in
@@ -136,12 +141,14 @@ below-carry (c ∷ cs) k ss below = below-carry cs (more-fresh c k) (ss ++ (carr
       where
         len : length (ss ++ (s ∷ [])) ≡ suc (length ss)
         len = let e = length-append ss (s ∷ []) in omega arith
+
         here : Dec (w ≡ length ss) → v < length (ss ++ (s ∷ []))
         here (yes e) =
             let es : getD (ss ++ (s ∷ [])) w no-wire ≡ s = ap (λ i. getD (ss ++ (s ∷ [])) i no-wire) e ∙ getD-end ss s no-wire in
             let x = new v (sym (ap (λ (t : Wires). t v) es) ∙ h) in omega (arith, len)
         here (no e) =
             let x = below w v (sym (ap (λ (t : Wires). t v) (getD-not-end ss s no-wire w e)) ∙ h) in omega (arith, len)
+
     new : (c : Driver) (v : ℕ) → carried probes c k ss v ≡ true → v < suc (length ss)
     new fresh v h = let e = eqb-true v (length ss) h in omega arith
     new (stored a) v h = let e = eqb-true v (length ss) h in omega arith

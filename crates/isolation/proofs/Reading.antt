@@ -34,20 +34,22 @@ All-below w (o ∷ os) = (o < w) × All-below w os
 module _ {V : Type 0} (A : Carrier V) where
   -- the value on a wire is what its cell makes of some list that has the values on all wires before it
   pub carry-at : (cs : List Driver) (k : ℕ) (before : List V) (j : ℕ) (c : Driver) → getElem? cs j ≡ some c
-    → (pre : List V) × (length pre ≡ length before + j)
+      → (pre : List V) × (length pre ≡ length before + j)
       × ((i : ℕ) → i < length before + j → getD (carry A cs k before) i (A .none) ≡ getD pre i (A .none))
       × (getD (carry A cs k before) (length before + j) (A .none) ≡ carried A c (fresh-before cs j k) pre)
   carry-at [] k before j c e = let z : _≡_ {A = ℕ} 0 1 = cc in absurd (omega arith)
   carry-at (b ∷ cs) k before zero c e =
       let same : b ≡ c = cc in
       let v = carried A b k before in
-      let l = length-append before (v ∷ []) in
-      (before, sym (add-zero (length before)),
+      let l = length-append before (v ∷ []) in (
+        before,
+        sym (add-zero (length before)),
         (λ i h. carry-before A (b ∷ cs) k before i (A .none) (omega arith)),
         ap (λ i. getD (carry A (b ∷ cs) k before) i (A .none)) (add-zero (length before))
-        ∙ carry-before A cs (more-fresh b k) (before ++ (v ∷ [])) (length before) (A .none) (omega arith)
-        ∙ getD-append-seam before v [] (A .none)
-        ∙ ap (λ x. carried A x k before) same)
+            ∙ carry-before A cs (more-fresh b k) (before ++ (v ∷ [])) (length before) (A .none) (omega arith)
+            ∙ getD-append-seam before v [] (A .none)
+            ∙ ap (λ x. carried A x k before) same,
+      )
   carry-at (b ∷ cs) k before (suc j) c e =
       let v = carried A b k before in
       let l = length-append before (v ∷ []) in
@@ -59,7 +61,7 @@ module _ {V : Type 0} (A : Carrier V) where
   read vs o = getD vs o (A .none)
 
   same-reads : (us vs : List V) (w : ℕ) → ((i : ℕ) → i < w → read us i ≡ read vs i) → (os : List ℕ) → All-below w os
-    → map (read us) os ≡ map (read vs) os
+      → map (read us) os ≡ map (read vs) os
   same-reads us vs w h [] b = refl
   same-reads us vs w h (o ∷ os) b = let p = h o (b .0) in let q = same-reads us vs w h os (b .1) in cc
 

@@ -12,4 +12,4 @@ Agree S u v = (w : ℕ) → S w ≡ true → getD u w false ≡ getD v w false
 -- what a probe on w sees determines the value on w: two settlings that agree on all wires that it sees agree on w
 abbrev pub Determines : Circuit → ℕ → Type 0
 Determines c w = (s m t n : List Bool) → length s ≡ share-count c → length t ≡ share-count c
-  → Agree (seen c w) (settled c s m) (settled c t n) → getD (settled c s m) w false ≡ getD (settled c t n) w false
+    → Agree (seen c w) (settled c s m) (settled c t n) → getD (settled c s m) w false ≡ getD (settled c t n) w false
