@@ -3,7 +3,7 @@ use mathlib.Core.Path.{_≡_, refl, sym, ap, _∙_}
 use mathlib.Core.List.{List, [], _∷_, _++_, map, append-assoc, append-nil}
 use mathlib.Core.Bool.{Bool, false}
 use Prim.Native.Nat.{ℕ, zero, suc, _+_, _<_}
-use native.Mathlib.Nat.{add-zero}
+use native.Mathlib.Nat.{add-zero, add-suc}
 use native.Mathlib.Omega.{arith}
 use lib.ListN.{length, getD, length-append, List·getD-append}
 use Rattle.std.proofs.shelf.Lists.{map-push}
@@ -67,14 +67,19 @@ module _ (m V : List Bool) where
       here (stored a) h = there (stored a) h
       here (looked t os) h = refl
 
--- a map from one kind of thing to another that fresh wires, registers and look-ups respect
-pub record Respects {V W : Type 0} (A : Carrier V) (B : Carrier W) (h : V → W) : Type 0 where
+-- a map from one kind of thing to another that fresh wires, registers and look-ups respect; the other counts its fresh wires from n on
+pub record Respects {V W : Type 0} (A : Carrier V) (B : Carrier W) (h : V → W) (n : ℕ) : Type 0 where
   pub none : h (A .none) ≡ B .none
-  pub source : (w k : ℕ) → h (A .source w k) ≡ B .source w k
+  pub source : (w k : ℕ) → h (A .source w k) ≡ B .source w (n + k)
   pub store : (w : ℕ) (v : V) → h (A .store w v) ≡ B .store w (h v)
   pub look : (t : ℕ) (vs : List V) → h (A .look t vs) ≡ B .look t (map h vs)
 
-module _ {V W : Type 0} (A : Carrier V) (B : Carrier W) (h : V → W) (r : Respects A B h) where
+more-from : (c : Driver) (n k : ℕ) → more-fresh c (n + k) ≡ n + more-fresh c k
+more-from fresh n k = sym (add-suc n k)
+more-from (stored a) n k = refl
+more-from (looked t os) n k = refl
+
+module _ {V W : Type 0} (A : Carrier V) (B : Carrier W) (h : V → W) (n : ℕ) (r : Respects A B h n) where
   getD-mapped : (vs : List V) (i : ℕ) → h (getD vs i (A .none)) ≡ getD (map h vs) i (B .none)
   getD-mapped [] i = r .none
   getD-mapped (v ∷ vs) zero = refl
@@ -87,19 +92,20 @@ module _ {V W : Type 0} (A : Carrier V) (B : Carrier W) (h : V → W) (r : Respe
       let y = read-mapped vs os in
       cc
 
-  carried-mapped : (c : Driver) (k : ℕ) (vs : List V) (n : ℕ) → length vs ≡ n → n ≡ length (map h vs) → h (carried A c k vs) ≡ carried B c k (map h vs)
-  carried-mapped fresh k vs n e f = r .source (length vs) k ∙ ap (λ w. B .source w k) (e ∙ f)
-  carried-mapped (stored a) k vs n e f =
-      r .store (length vs) (getD vs a (A .none)) ∙ ap (B .store (length vs)) (getD-mapped vs a) ∙ ap (λ w. B .store w (getD (map h vs) a (B .none))) (e ∙ f)
-  carried-mapped (looked t os) k vs n e f = r .look t (map (λ o. getD vs o (A .none)) os) ∙ ap (B .look t) (read-mapped vs os)
-
   long : (vs : List V) → length vs ≡ length (map h vs)
   long [] = refl
   long (v ∷ vs) = ap suc (long vs)
 
+  carried-mapped : (c : Driver) (k : ℕ) (vs : List V) → h (carried A c k vs) ≡ carried B c (n + k) (map h vs)
+  carried-mapped fresh k vs = r .source (length vs) k ∙ ap (λ w. B .source w (n + k)) (long vs)
+  carried-mapped (stored a) k vs =
+      r .store (length vs) (getD vs a (A .none)) ∙ ap (B .store (length vs)) (getD-mapped vs a) ∙ ap (λ w. B .store w (getD (map h vs) a (B .none))) (long vs)
+  carried-mapped (looked t os) k vs = r .look t (map (λ o. getD vs o (A .none)) os) ∙ ap (B .look t) (read-mapped vs os)
+
   -- carrying the one and mapping is mapping and carrying the other
-  pub carry-mapped : (cs : List Driver) (k : ℕ) (vs : List V) → map h (carry A cs k vs) ≡ carry B cs k (map h vs)
+  pub carry-mapped : (cs : List Driver) (k : ℕ) (vs : List V) → map h (carry A cs k vs) ≡ carry B cs (n + k) (map h vs)
   carry-mapped [] k vs = refl
   carry-mapped (c ∷ cs) k vs =
       carry-mapped cs (more-fresh c k) (vs ++ (carried A c k vs ∷ []))
-      ∙ ap (carry B cs (more-fresh c k)) (map-push h vs (carried A c k vs) ∙ ap (λ v. map h vs ++ (v ∷ [])) (carried-mapped c k vs (length vs) refl (long vs)))
+      ∙ ap (λ m. carry B cs m (map h (vs ++ (carried A c k vs ∷ [])))) (sym (more-from c n k))
+      ∙ ap (carry B cs (more-fresh c (n + k))) (map-push h vs (carried A c k vs) ∙ ap (λ v. map h vs ++ (v ∷ [])) (carried-mapped c k vs))

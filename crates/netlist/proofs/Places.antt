@@ -1,13 +1,14 @@
 -- What stands at a place of a list, and the cell of a wire by where the wire lies.
-use mathlib.Core.Path.{_≡_, refl, sym, _∙_}
+use mathlib.Core.Path.{_≡_, refl, sym, ap, _∙_}
 use mathlib.Core.List.{List, [], _∷_}
 use Prim.Native.Nat.{ℕ, zero, suc, _+_, _-_, _*_, _<_, _≤_}
 use native.Mathlib.Omega.{arith}
-use lib.ListN.{length, getD}
+use lib.ListN.{length, getD, length-map}
 use borrow.Author.Tests.{lt-ltb, le-ltb}
 use Rattle.std.specs.declared.option.Option.the-variants.{Some, None}
-use Rattle.netlist.specs.Nets.{Net, nth, cell-at, net-wires}
-use Rattle.netlist.specs.Cells.{no-cell}
+use Rattle.netlist.specs.Circuit.{wire-count}
+use Rattle.netlist.specs.Nets.{Net, nth, cell-at, net-wires, circuit}
+use Rattle.netlist.specs.Cells.{driver, no-cell}
 
 module _ {A : Type 0} where
   pub nth-past : (xs : List A) (k : ℕ) → length xs ≤ k → nth xs k ≡ None
@@ -31,3 +32,6 @@ cell-at-past net w h = sym (cell-at-cell net w (omega arith) ∙ nth-past (net .
 
 pub cell-at-own : (net : Net) (w : ℕ) → 2 * net .inputs ≤ w → w < net-wires net → cell-at net w ≡ Some (getD (net .cells) (w - 2 * net .inputs) no-cell)
 cell-at-own net w l h = cell-at-cell net w l ∙ nth-getD (net .cells) (w - 2 * net .inputs) no-cell (omega arith)
+
+pub wires-circuit : (net : Net) → net-wires net ≡ wire-count (circuit net)
+wires-circuit net = ap (λ n. 2 * net .inputs + n) (sym (length-map (net .cells) driver))

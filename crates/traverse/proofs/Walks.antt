@@ -8,7 +8,7 @@ use lib.ListN.{length, getD, take, drop, set, length-set}
 use Rattle.std.proofs.shelf.Lists.{drop-more, drop-drop, drop-all, drop-set-lt, take-more-set, take-append-drop, length-take-le, take-at}
 use Rattle.std.proofs.shelf.Parts.{drop-append-drop}
 use Rattle.netlist.specs.declared.cell.Cell.{Cell}
-use Rattle.netlist.specs.Circuit.{carry, carried, more-fresh}
+use Rattle.netlist.specs.Circuit.{carry, carried, more-fresh, fresh-after, mask-count}
 use Rattle.netlist.specs.Cells.{driver, Fits, no-cell}
 use Rattle.netlist.specs.Nets.{Net, net-wires, circuit, CellsFit}
 use Rattle.traverse.specs.Values.{Ops, given-values, filled, carried-from}
@@ -108,3 +108,28 @@ pub fits-below : {V : Type 0} (p : ℕ) (cells : List Cell) (w : ℕ) (out : Lis
 fits-below p cells w out x fit l m room e =
     let long : length (take (w - 0) out) ≡ 2 * p + (w - 2 * p) = length-take-le (w - 0) out (omega arith) ∙ omega arith in
     subst (λ n. Fits n x) (sym long) (subst (Fits (2 * p + (w - 2 * p))) (sym e) (fit (w - 2 * p) (omega arith)))
+
+-- what counting the masks keeps: w wires are done, k of them are masks
+abbrev pub Counted : Net → ℕ → ℕ → Type 0
+Counted net w k = (fresh-after (map driver (drop (w - 2 * net .inputs) (net .cells))) k ≡ mask-count (circuit net)) × (k ≤ w)
+
+pub count-start : (net : Net) (w : ℕ) → w ≡ 2 * net .inputs → Counted net w 0
+count-start net w e =
+    let z : w - 2 * net .inputs ≡ 0 = omega arith in
+    (ap (λ i. fresh-after (map driver (drop i (net .cells))) 0) z, omega arith)
+
+pub count-again : (net : Net) (w k fresh : ℕ) (x : Cell) → 2 * net .inputs ≤ w → w < net-wires net → x ≡ getD (net .cells) (w - 2 * net .inputs) no-cell → fresh ≡ more-fresh (driver x) k → fresh ≤ k + 1
+    → Counted net w k → Counted net (w + 1) fresh
+count-again net w k fresh x l m ex ef bound h =
+    let j = w - 2 * net .inputs in
+    let next : w + 1 - 2 * net .inputs ≡ j + 1 = omega arith in
+    let here : drop j (net .cells) ≡ getD (net .cells) j no-cell ∷ drop (j + 1) (net .cells) = drop-more (net .cells) j no-cell (omega arith) in (
+      ap (λ i. fresh-after (map driver (drop i (net .cells))) fresh) next
+          ∙ ap (fresh-after (map driver (drop (j + 1) (net .cells)))) (ef ∙ ap (λ (y : Cell). more-fresh (driver y) k) ex)
+          ∙ sym (ap (λ cs. fresh-after (map driver cs) k) here) ∙ h .0,
+      omega (arith, h .1),
+    )
+
+pub count-end : (net : Net) (w k : ℕ) → net-wires net ≤ w → Counted net w k → k ≡ mask-count (circuit net)
+count-end net w k l h =
+    sym (ap (λ cs. fresh-after (map driver cs) k) (drop-all (w - 2 * net .inputs) (net .cells) (omega arith))) ∙ h .0

@@ -3,7 +3,7 @@ ghost use mathlib.Core.Path.{_≡_};
 ghost use mathlib.Core.List.{_++_};
 ghost use Prim.Native.Nat.{ℕ, _+_, _-_, _*_, _<_, _≤_};
 ghost use lib.ListN.{length, getD, take, drop};
-ghost use Rattle.netlist.specs.Circuit.{carried, more-fresh};
+ghost use Rattle.netlist.specs.Circuit.{carried, more-fresh, mask-count};
 ghost use Rattle.netlist.specs.Cells.{driver, Fits, no-cell};
 ghost use Rattle.netlist.specs.Nets.{net-wires, circuit};
 ghost use Rattle.traverse.specs.Values.{given-values, filled, carried-from};
@@ -67,8 +67,8 @@ fn drive<V: WireValue>(x: Cell, below: &[V], given: &[V], k: usize) -> V
     }
 }
 
-// The cell of a wire that has one.
-fn cell_of<N: Netlist>(netlist: &N, wire: usize) -> Cell
+// The cell of a wire that has one; for crates that know it to have one.
+pub fn cell_of<N: Netlist>(netlist: &N, wire: usize) -> Cell
     requires past_shares { ⌜ 2 * net (now netlist) .inputs ≤ wire ⌝ }
     requires within { ⌜ wire < net-wires (net (now netlist)) ⌝ }
     ensures { λ r. ⌜ r ≡ getD (net (now (netlist .entry)) .cells) (wire - 2 * net (now (netlist .entry)) .inputs) no-cell ⌝ }
@@ -77,6 +77,19 @@ fn cell_of<N: Netlist>(netlist: &N, wire: usize) -> Cell
         Some(x) => x,
         None => unreachable(),
     }
+}
+
+// How many of the cells are masks.
+pub fn masks<N: Netlist>(netlist: &N) -> usize
+    ensures value { λ r. ⌜ r ≡ mask-count (circuit (net (now (netlist .entry)))) ⌝ }
+    ensures few { λ r. ⌜ r ≤ 4096 ⌝ }
+{
+    let first = 2 * netlist.inputs();
+    let mut k = 0;
+    for wire in first..netlist.wires() {
+        k = fresh_after(cell_of(netlist, wire), k);
+    }
+    k
 }
 
 // The value of the next wire, number `wire`, and the number of fresh wires after it.

@@ -1,0 +1,29 @@
+use mathlib.Core.Path.{_≡_, sym, _∙_}
+use Prim.Native.Nat.{_≤_}
+use native.Mathlib.Omega.{arith}
+use lib.ListN.{length}
+use Rattle.netlist.specs.Circuit.{share-count, wire-count}
+use Rattle.netlist.specs.Nets.{circuit, net-wires}
+use Rattle.netlist.proofs.Places.{wires-circuit}
+use Rattle.traverse.specs.Values.{carried-from, lane-ops}
+use Rattle.query.specs.Answers.{settled-bytes}
+use Rattle.query.proofs.Tests.{room-known, given-known, bits-below, passed, rewritten-by}
+use Rattle.query.proofs.Settles.{settled-from, length-settled-bytes}
+use Rattle.query.proofs.settling.settle.Needs as need
+
+pub carry-requires : need.carry-requires
+carry-requires g c κs =
+    let n = g .N·Netlist .net (c .args .netlist .now) in
+    omega (arith, wires-circuit n, room-known (wire-count (circuit n)) (length (c .args .out .now)) (c .in-Continue-check-room .ensures tt))
+
+pub returns : need.returns
+returns g c =
+    let n = g .N·Netlist .net (c .args .netlist .now) in
+    let given = c .args .given .now in
+    let long : share-count (circuit n) ≤ length given = omega (arith, given-known (circuit n) (length given) (c .in-Continue-check-given .ensures tt)) in
+    record {
+      answer = passed _ _ _ (c .in-Continue-check-room .ensures tt) (passed _ _ _ (c .in-Continue-check-given .ensures tt) (c .in-Continue-check-bits .ensures tt));
+      after =
+          rewritten-by (net-wires n) (carried-from (lane-ops 1) (circuit n) given) (settled-bytes (circuit n) given) (c .args .out .now) _ (c .carry .ensures)
+          (settled-from (circuit n) given (bits-below given 0 (sym (c .in-Continue-check-bits .ensures tt))) long) (wires-circuit n ∙ sym (length-settled-bytes (circuit n) given long));
+    }

@@ -1,0 +1,5 @@
+// The questions that every netlist answers: what its wires settle to, what a probe sees, how many registers lie before a wire.
+pub mod checks;
+pub mod counting;
+pub mod probing;
+pub mod settling;

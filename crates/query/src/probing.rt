@@ -1,0 +1,60 @@
+// What a probe sees.
+ghost use mathlib.Core.Path.{_≡_};
+ghost use Prim.Native.Nat.{ℕ, _<_};
+ghost use lib.ListN.{length, replicate};
+ghost use Rattle.netlist.specs.Cells.{driver, Fits};
+ghost use Rattle.netlist.specs.Nets.{circuit, net-wires};
+ghost use Rattle.isolation.specs.Agreeing.{Determines};
+ghost use Rattle.query.specs.Answers.{probe-answer, probe-bytes, rewritten};
+ghost use Rattle.query.specs.Marks.{handed-on};
+use crate::checks::check_room;
+use netlist::cell::Cell;
+use netlist::cell::Kind;
+use netlist::fault::NetlistFault;
+use netlist::netlist::Netlist;
+use traverse::walk::cell_of;
+
+// Hands the mark of a look-up on to its operands.
+fn hand_on(x: Cell, wire: usize, marks: &mut [u8])
+    requires within { ⌜ wire < length (now marks) ⌝ }
+    requires fits { ⌜ Fits wire x ⌝ }
+    ensures { λ _. ⌜ now (marks .exit) ≡ handed-on (driver x) wire (now (marks .entry)) ⌝ }
+{
+    if marks[wire] != 1 {
+        return;
+    }
+    match x.kind {
+        Kind::Mask | Kind::Reg => {}
+        Kind::Not | Kind::Look1 => {
+            marks[wire] = 0;
+            marks[usize::from(x.a)] = 1;
+        }
+        Kind::And | Kind::Xor | Kind::Look2 => {
+            marks[wire] = 0;
+            marks[usize::from(x.a)] = 1;
+            marks[usize::from(x.b)] = 1;
+        }
+        Kind::Look3 => {
+            marks[wire] = 0;
+            marks[usize::from(x.a)] = 1;
+            marks[usize::from(x.b)] = 1;
+            marks[usize::from(x.c)] = 1;
+        }
+        Kind::Look4 => {
+            marks[wire] = 0;
+            marks[usize::from(x.a)] = 1;
+            marks[usize::from(x.b)] = 1;
+            marks[usize::from(x.c)] = 1;
+            marks[usize::from(x.d)] = 1;
+        }
+    }
+}
+
+// Zero everywhere.
+fn clear(marks: &mut [u8])
+    ensures { λ _. ⌜ now (marks .exit) ≡ replicate (length (now (marks .entry))) 0 ⌝ }
+{
+    for m in marks.iter_mut() {
+        *m = 0;
+    }
+}
