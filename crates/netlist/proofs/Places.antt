@@ -1,5 +1,5 @@
 -- What stands at a place of a list, and the cell of a wire by where the wire lies.
-use mathlib.Core.Path.{_≡_, refl, sym, ap, _∙_}
+use mathlib.Core.Path.{_≡_, refl, sym, ap, subst, _∙_}
 use mathlib.Core.List.{List, [], _∷_}
 use Prim.Native.Nat.{ℕ, zero, suc, _+_, _-_, _*_, _<_, _≤_}
 use native.Mathlib.Omega.{arith}
@@ -7,8 +7,9 @@ use lib.ListN.{length, getD, length-map}
 use borrow.Author.Tests.{lt-ltb, le-ltb}
 use Rattle.std.specs.declared.option.Option.the-variants.{Some, None}
 use Rattle.netlist.specs.Circuit.{wire-count}
-use Rattle.netlist.specs.Nets.{Net, nth, cell-at, net-wires, circuit}
-use Rattle.netlist.specs.Cells.{driver, no-cell}
+use Rattle.netlist.specs.declared.cell.Cell.{Cell}
+use Rattle.netlist.specs.Nets.{Net, nth, cell-at, net-wires, circuit, CellsFit}
+use Rattle.netlist.specs.Cells.{driver, Fits, no-cell}
 
 module _ {A : Type 0} where
   pub nth-past : (xs : List A) (k : ℕ) → length xs ≤ k → nth xs k ≡ None
@@ -35,3 +36,9 @@ cell-at-own net w l h = cell-at-cell net w l ∙ nth-getD (net .cells) (w - 2 * 
 
 pub wires-circuit : (net : Net) → net-wires net ≡ wire-count (circuit net)
 wires-circuit net = ap (λ n. 2 * net .inputs + n) (sym (length-map (net .cells) driver))
+
+-- a cell fits the wire that it drives
+pub fits-at : (p : ℕ) (cells : List Cell) (w : ℕ) (x : Cell) → CellsFit p cells → 2 * p ≤ w → w < 2 * p + length cells → x ≡ getD cells (w - 2 * p) no-cell → Fits w x
+fits-at p cells w x fit l m e =
+    let n : 2 * p + (w - 2 * p) ≡ w = omega arith in
+    subst (λ i. Fits i x) n (subst (Fits (2 * p + (w - 2 * p))) (sym e) (fit (w - 2 * p) (omega arith)))

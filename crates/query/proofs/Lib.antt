@@ -1,2 +1,4 @@
+pub mod Following
+pub mod Marking
 pub mod Settles
 pub mod Tests

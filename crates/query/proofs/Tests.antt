@@ -6,20 +6,26 @@ use Prim.Native.Nat.{ℕ, zero, suc, _+_, _<_, _≤_}
 use native.Mathlib.Omega.{arith}
 use lib.Dec.{ltb, eqb}
 use lib.ListN.{length, getD, drop}
-use borrow.Author.Tests.{lt-ltb, le-ltb, ltb-false, eqb-true}
+use borrow.Author.Tests.{lt-ltb, le-ltb, ltb-true, ltb-false, eqb-true}
 use Rattle.std.proofs.shelf.Lists.{drop-more, drop-all}
 use Rattle.std.specs.declared.result.Result.{Result}
 use Rattle.std.specs.declared.result.Result.the-variants.{Ok, Err}
 use Rattle.netlist.specs.declared.fault.NetlistFault.{NetlistFault}
-use Rattle.netlist.specs.declared.fault.NetlistFault.the-variants.{Bit, Given, Memory}
-use Rattle.netlist.specs.Circuit.{Circuit, share-count, mask-count}
-use Rattle.query.specs.Answers.{Answer, and-then, room-answer, given-answer, bits-answer}
+use Rattle.netlist.specs.declared.fault.NetlistFault.the-variants.{Bit, Given, Memory, Wire}
+use Rattle.netlist.specs.Circuit.{Circuit, share-count, wire-count, mask-count}
+use Rattle.query.specs.Answers.{Answer, and-then, room-answer, given-answer, bits-answer, wire-answer}
 
 pub room-short : (needed there : ℕ) → there < needed → Err (Memory needed) ≡ room-answer needed there
 room-short needed there h = rw (lt-ltb there needed h)
 
 pub room-enough : (needed there : ℕ) → needed ≤ there → Ok tt ≡ room-answer needed there
 room-enough needed there h = rw (le-ltb there needed h)
+
+pub wire-there : (c : Circuit) (w : ℕ) → w < wire-count c → _≡_ {A = Answer} (Ok tt) (wire-answer c w)
+wire-there c w h = rw (lt-ltb w (wire-count c) h)
+
+pub wire-past : (c : Circuit) (w : ℕ) → wire-count c ≤ w → Err (Wire w) ≡ wire-answer c w
+wire-past c w h = rw (le-ltb w (wire-count c) h)
 
 -- the test of the bytes, from the i-th on
 pub bits-here : (given : List ℕ) (i : ℕ) → i < length given → 1 < getD given i 0 → bits-answer i (drop i given) ≡ Err (Bit i)
@@ -66,3 +72,10 @@ passed a b r p q = q ∙ ap (λ x. and-then x b) p
 -- what is written, and the rest of the memory
 pub rewritten-by : (w : ℕ) (xs new old out : List ℕ) → out ≡ xs ++ drop w old → xs ≡ new → w ≡ length new → out ≡ new ++ drop (length new) old
 rewritten-by w xs new old out e same n = e ∙ ap (λ l. l ++ drop w old) same ∙ ap (λ k. new ++ drop k old) n
+
+pub wire-known : (c : Circuit) (w : ℕ) → _≡_ {A = Answer} (Ok tt) (wire-answer c w) → w < wire-count c
+wire-known c w e = split (ltb w (wire-count c)) refl e
+  where
+    split : (t : Bool) → ltb w (wire-count c) ≡ t → _≡_ {A = Answer} (Ok tt) (cond t (Ok tt) (Err (Wire w))) → w < wire-count c
+    split true t e = ltb-true w (wire-count c) t
+    split false t e = let z : _≡_ {A = ℕ} 0 1 = cc in absurd (omega arith)

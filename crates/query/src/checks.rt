@@ -1,6 +1,6 @@
 // The tests that queries begin with.
 ghost use mathlib.Core.Path.{_≡_};
-ghost use Rattle.query.specs.Answers.{room-answer, bits-answer, given-answer};
+ghost use Rattle.query.specs.Answers.{room-answer, given-answer, bits-answer, wire-answer};
 ghost use Rattle.netlist.specs.Circuit.{wire-count};
 ghost use Rattle.netlist.specs.Nets.{circuit};
 use netlist::fault::NetlistFault;
@@ -38,4 +38,14 @@ pub fn check_bits(given: &[u8]) -> Result<(), NetlistFault>
         }
     }
     Ok(())
+}
+
+// Whether the netlist has such a wire.
+pub fn check_wire<N: Netlist>(netlist: &N, wire: usize) -> Result<(), NetlistFault>
+    ensures { λ r. ⌜ r ≡ wire-answer (circuit (net (now (netlist .entry)))) wire ⌝ }
+{
+    if wire < netlist.wires() {
+        return Ok(());
+    }
+    Err(NetlistFault::Wire(wire))
 }

@@ -8,6 +8,7 @@ ghost use Rattle.isolation.specs.Agreeing.{Determines};
 ghost use Rattle.query.specs.Answers.{probe-answer, probe-bytes, rewritten};
 ghost use Rattle.query.specs.Marks.{handed-on};
 use crate::checks::check_room;
+use crate::checks::check_wire;
 use netlist::cell::Cell;
 use netlist::cell::Kind;
 use netlist::fault::NetlistFault;
@@ -57,4 +58,30 @@ fn clear(marks: &mut [u8])
     for m in marks.iter_mut() {
         *m = 0;
     }
+}
+
+// Marks what a probe on the wire sees.
+fn mark_seen<N: Netlist>(netlist: &N, wire: usize, marks: &mut [u8])
+    requires within { ⌜ wire < net-wires (net (now netlist)) ⌝ }
+    requires long { ⌜ length (now marks) ≡ net-wires (net (now netlist)) ⌝ }
+    ensures { λ _. ⌜ now (marks .exit) ≡ probe-bytes (circuit (net (now (netlist .entry)))) wire ⌝ }
+{
+    clear(marks);
+    marks[wire] = 1;
+    let first = 2 * netlist.inputs();
+    for w in (first..netlist.wires()).rev() {
+        hand_on(cell_of(netlist, w), w, marks);
+    }
+}
+
+// A byte for each wire, 1 where a probe on `wire` sees it. What it sees determines what `wire` settles to.
+pub fn probe<N: Netlist>(netlist: &N, wire: usize, out: &mut [u8]) -> Result<(), NetlistFault>
+    ensures answer { λ r. ⌜ r ≡ probe-answer (circuit (net (now (netlist .entry)))) wire (length (now (out .entry))) ⌝ }
+    ensures after { λ r. ⌜ now (out .exit) ≡ rewritten r (probe-bytes (circuit (net (now (netlist .entry)))) wire) (now (out .entry)) ⌝ }
+    ensures determines { λ _. ⌜ Determines (circuit (net (now (netlist .entry)))) wire ⌝ }
+{
+    check_room(netlist, out.len())?;
+    check_wire(netlist, wire)?;
+    mark_seen(netlist, wire, &mut out[0..netlist.wires()]);
+    Ok(())
 }

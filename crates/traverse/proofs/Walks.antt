@@ -11,6 +11,7 @@ use Rattle.netlist.specs.declared.cell.Cell.{Cell}
 use Rattle.netlist.specs.Circuit.{carry, carried, more-fresh, fresh-after, mask-count}
 use Rattle.netlist.specs.Cells.{driver, Fits, no-cell}
 use Rattle.netlist.specs.Nets.{Net, net-wires, circuit, CellsFit}
+use Rattle.netlist.proofs.Places.{fits-at}
 use Rattle.traverse.specs.Values.{Ops, given-values, filled, carried-from}
 
 -- a write at i leaves what is past it
@@ -106,8 +107,8 @@ module _ {V : Type 0} where
 pub fits-below : {V : Type 0} (p : ℕ) (cells : List Cell) (w : ℕ) (out : List V) (x : Cell) → CellsFit p cells → 2 * p ≤ w → w < 2 * p + length cells → w ≤ length out
     → x ≡ getD cells (w - 2 * p) no-cell → Fits (length (take (w - 0) out)) x
 fits-below p cells w out x fit l m room e =
-    let long : length (take (w - 0) out) ≡ 2 * p + (w - 2 * p) = length-take-le (w - 0) out (omega arith) ∙ omega arith in
-    subst (λ n. Fits n x) (sym long) (subst (Fits (2 * p + (w - 2 * p))) (sym e) (fit (w - 2 * p) (omega arith)))
+    let long : length (take (w - 0) out) ≡ w = length-take-le (w - 0) out (omega arith) ∙ omega arith in
+    subst (λ n. Fits n x) (sym long) (fits-at p cells w x fit l m e)
 
 -- what counting the masks keeps: w wires are done, k of them are masks
 abbrev pub Counted : Net → ℕ → ℕ → Type 0
