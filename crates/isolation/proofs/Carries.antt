@@ -1,13 +1,13 @@
--- What holds of every carrying: its length, its beginning, carrying the same values once more, and the same cells carried as two things.
+-- What holds of every carrying: its length, its beginning, masks that nothing reads, carrying the same values once more, and the same cells carried as two things.
 use mathlib.Core.Path.{_≡_, refl, sym, ap, _∙_}
 use mathlib.Core.List.{List, [], _∷_, _++_, map, append-assoc, append-nil}
 use mathlib.Core.Bool.{Bool, false}
-use Prim.Native.Nat.{ℕ, zero, suc, _+_, _<_}
+use Prim.Native.Nat.{ℕ, zero, suc, _+_, _<_, _≤_}
 use native.Mathlib.Nat.{add-zero, add-suc}
 use native.Mathlib.Omega.{arith}
 use lib.ListN.{length, getD, length-append, List·getD-append}
 use Rattle.std.proofs.shelf.Lists.{map-push}
-use Rattle.netlist.specs.Circuit.{Driver, fresh, stored, looked, Carrier, carried, carry, more-fresh, fresh-after, bits, bit, number}
+use Rattle.netlist.specs.Circuit.{Driver, fresh, stored, looked, Circuit, share-count, wire-count, Carrier, carried, carry, more-fresh, fresh-after, bits, bit, number, settled}
 use Rattle.isolation.proofs.Lists.{getD-end}
 
 module _ {V : Type 0} (A : Carrier V) where
@@ -33,6 +33,9 @@ module _ {V : Type 0} (A : Carrier V) where
       let r = carry-extends cs k vs in
       ap (λ l. getD l i z) (r .1) ∙ List·getD-append vs (r .0) z i h
 
+pub length-settled : (c : Circuit) (s m : List Bool) → length s ≡ share-count c → length (settled c s m) ≡ wire-count c
+length-settled c s m h = length-carry (bits m) (c .drivers) 0 s ∙ ap (λ n. n + length (c .drivers)) h
+
 -- how many fresh wires there are, counted from k
 pub fresh-after-from : (cs : List Driver) (k : ℕ) → fresh-after cs k ≡ k + fresh-after cs 0
 fresh-after-from [] k = sym (add-zero k)
@@ -42,6 +45,21 @@ fresh-after-from (fresh ∷ cs) k =
     omega arith
 fresh-after-from (stored a ∷ cs) k = fresh-after-from cs k
 fresh-after-from (looked t os ∷ cs) k = fresh-after-from cs k
+
+pub fresh-after-append : (cs ds : List Driver) (k : ℕ) → fresh-after (cs ++ ds) k ≡ fresh-after ds (fresh-after cs k)
+fresh-after-append [] ds k = refl
+fresh-after-append (c ∷ cs) ds k = fresh-after-append cs ds (more-fresh c k)
+
+-- masks past the last that is read
+pub settle-more : (m q : List Bool) (cs : List Driver) (k : ℕ) (vs : List Bool) → fresh-after cs k ≤ length m
+    → carry (bits (m ++ q)) cs k vs ≡ carry (bits m) cs k vs
+settle-more m q [] k vs h = refl
+settle-more m q (fresh ∷ cs) k vs h =
+    let f = fresh-after-from cs (suc k) in
+    let e : getD (m ++ q) k false ≡ getD m k false = List·getD-append m q false k (omega arith) in
+    ap (λ b. carry (bits (m ++ q)) cs (suc k) (vs ++ (b ∷ []))) e ∙ settle-more m q cs (suc k) (vs ++ (getD m k false ∷ [])) h
+settle-more m q (stored a ∷ cs) k vs h = settle-more m q cs k (vs ++ (getD vs a false ∷ [])) h
+settle-more m q (looked t os ∷ cs) k vs h = settle-more m q cs k (vs ++ (bit t (number (map (λ o. getD vs o false) os)) ∷ [])) h
 
 -- fresh wires and registers that read their value off a list
 abbrev pub reread : List Bool → Carrier Bool

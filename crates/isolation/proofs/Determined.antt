@@ -1,20 +1,20 @@
 -- What a probe sees determines the value on its wire; a probe sees no wire past the last.
 use mathlib.Core.Path.{_≡_, refl, sym, ap, _∙_, subst}
 use mathlib.Core.List.{List, [], _∷_, _++_, map}
-use mathlib.Core.Bool.{Bool, true, false, cond, _||_}
+use mathlib.Core.Bool.{Bool, true, false, _||_}
 use mathlib.Core.Logic.{_⊎_, inl, inr}
 use Prim.Native.Nat.{ℕ, zero, suc, _+_, _*_, _<_, _≤_}
 use native.Mathlib.Decide.{decLt, ℕ-discrete}
 use native.Mathlib.Nat.{zero-add, add-zero, suc-add, add-suc}
 use native.Mathlib.Omega.{arith}
 use borrow.Author.Tests.{eqb-true, eq-eqb}
-use lib.ListN.{length, getD, length-append, take, drop, length-take, List·getD-append, List·getD-eq-default}
-use lib.Seq.{getD-take, length-take-le, take-append-seam, take-at}
-use lib.Dec.{eqb}
-use Rattle.netlist.specs.Circuit.{Driver, fresh, stored, looked, Circuit, wire-count, share-count, Carrier, carried, carry, more-fresh, bits, bit, number, probes, union, Wires, settled, seen, no-wire, alone, alone-from}
+use lib.ListN.{length, getD, length-append, take, length-take, List·getD-eq-default}
+use lib.Seq.{getD-take, length-take-le, take-at}
+use Rattle.netlist.specs.Circuit.{Driver, fresh, stored, looked, Circuit, wire-count, share-count, carried, carry, more-fresh, bits, bit, number, probes, union, Wires, settled, seen, no-wire, alone, alone-from}
 use Rattle.isolation.proofs.Lists.{getD-end, getD-not-end}
-use Rattle.isolation.proofs.Carries.{reread, reread-settled, length-carry, carry-extends}
-use Rattle.isolation.specs.Agreeing.{Agree, Determines}
+use Rattle.isolation.proofs.Carries.{reread, reread-settled, length-carry, carry-extends, length-settled}
+use Rattle.isolation.specs.Agreeing.{Agree}
+use Rattle.isolation.specs.Theorems.{Probe-determines-wire}
 
 pub or-cases : (a b : Bool) → (a || b) ≡ true → (a ≡ true) ⊎ (b ≡ true)
 or-cases true b h = inl refl
@@ -169,10 +169,7 @@ seen-below net w v h =
         let f : no-wire v ≡ true = sym (ap (λ (t : Wires). t v) e) ∙ h in
         let z : _≡_ {A = ℕ} 0 1 = cc in omega arith
 
-pub determines : (c : Circuit) (w : ℕ) → Determines c w
+pub determines : Probe-determines-wire
 determines c w s m t n hs ht agree =
     let e : (s m : List Bool) → length s ≡ share-count c → getD (settled c s m) w false ≡ getD (replay c (settled c s m)) w false = λ s m h. ap (λ l. getD l w false) (sym (replay-settled c s m h)) in
-    e s m hs ∙ determined c (settled c s m) (settled c t n) (long s m hs) (long t n ht) w agree ∙ sym (e t n ht)
-  where
-    long : (s m : List Bool) → length s ≡ share-count c → length (settled c s m) ≡ wire-count c
-    long s m h = length-carry (bits m) (c .drivers) 0 s ∙ ap (λ k. k + length (c .drivers)) h
+    e s m hs ∙ determined c (settled c s m) (settled c t n) (length-settled c s m hs) (length-settled c t n ht) w agree ∙ sym (e t n ht)

@@ -5,16 +5,14 @@ use mathlib.Core.Option.{none, some}
 use Prim.Native.Nat.{ℕ, zero, suc, _+_, _<_}
 use native.Mathlib.Nat.{add-zero, suc-add, add-suc}
 use native.Mathlib.Omega.{arith}
-use lib.ListN.{length, getD, getElem?, length-append, List·getD-append}
+use lib.ListN.{length, getD, getElem?, take, length-append}
 use lib.Seq.{getD-append-seam}
-use Rattle.netlist.specs.Circuit.{Driver, fresh, stored, looked, Carrier, carried, carry, more-fresh}
-use Rattle.isolation.proofs.Carries.{length-carry, carry-before}
+use Rattle.netlist.specs.Circuit.{Driver, fresh, stored, looked, Carrier, carried, carry, more-fresh, fresh-after}
+use Rattle.isolation.proofs.Carries.{carry-before}
 
 -- how many fresh wires the first j cells make
 abbrev pub fresh-before : List Driver → ℕ → ℕ → ℕ
-fresh-before cs zero k = k
-fresh-before [] (suc j) k = k
-fresh-before (c ∷ cs) (suc j) k = fresh-before cs j (more-fresh c k)
+fresh-before cs j k = fresh-after (take j cs) k
 
 pub fresh-before-all : (cs : List Driver) (j k : ℕ) → ((i : ℕ) → i < j → getElem? cs i ≡ some fresh) → fresh-before cs j k ≡ k + j
 fresh-before-all cs zero k h = sym (add-zero k)

@@ -6,6 +6,7 @@ use Prim.Native.Nat.{ℕ}
 use lib.ListN.{length, getD}
 use Rattle.netlist.specs.Circuit.{Circuit, Wires, share-count, settled, seen}
 
+-- the same value on each wire of S
 abbrev pub Agree : Wires → List Bool → List Bool → Type 0
 Agree S u v = (w : ℕ) → S w ≡ true → getD u w false ≡ getD v w false
 

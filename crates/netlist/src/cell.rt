@@ -4,7 +4,7 @@ ghost use Rattle.std.specs.Orderings.{Decides};
 ghost use Rattle.netlist.specs.Cells.{arity, table-limit, operand-limit, Fits};
 
 // A fresh bit, a gate, a register, or a look-up of one to four operands.
-#[derive(Clone, Copy, PartialEq, Eq, Debug)]
+#[derive(Clone, Copy, PartialEq, Eq)]
 pub enum Kind {
     Mask,
     Not,
@@ -18,7 +18,7 @@ pub enum Kind {
 }
 
 // Operands are wire numbers; the parts that the kind does not use are zero.
-#[derive(Clone, Copy, PartialEq, Eq, Debug)]
+#[derive(Clone, Copy, PartialEq, Eq)]
 pub struct Cell {
     pub kind: Kind,
     pub table: u16,

@@ -1,5 +1,4 @@
-// Netlists: cells, what answers as a netlist, and the faults of fields and netlists.
+// Netlists: cells, and what answers as a netlist.
 pub mod cell;
 pub mod cell_list;
-pub mod fault;
 pub mod netlist;

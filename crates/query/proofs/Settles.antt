@@ -11,9 +11,10 @@ use lib.ListN.{length, getD, take, drop, replicate, length-append, length-map, l
 use Rattle.std.proofs.shelf.Lists.{getD-drop, take-map, map-id, length-take-le, take-at, drop-at}
 use Rattle.netlist.specs.Circuit.{Driver, fresh, stored, looked, Circuit, share-count, wire-count, mask-count, Carrier, carried, carry, more-fresh, bits, settled, counts, largest, register-counts, bit, bit-of, number}
 use Rattle.isolation.proofs.Lists.{getD-end, getD-not-end}
-use Rattle.isolation.proofs.Carries.{length-carry, Respects, carry-mapped}
-use Rattle.traverse.specs.Values.{Ops, given-values, filled, carried-from, lane, lanes, lane-ops, count-ops}
-use Rattle.traverse.proofs.LaneLaws.{lanes-one, lane-lanes, zero-lane}
+use Rattle.isolation.proofs.Carries.{length-carry, length-settled, Respects, carry-mapped}
+use Rattle.value.specs.Values.{Ops, lane, lanes, lane-ops, count-ops}
+use Rattle.traverse.specs.Carrying.{given-values, filled, carried-from}
+use Rattle.value.proofs.LaneLaws.{lanes-one, lane-lanes, zero-lane}
 use Rattle.traverse.proofs.Walks.{length-filled}
 use Rattle.query.specs.Answers.{is-one, settled-bytes, SettledLanes}
 
@@ -72,9 +73,6 @@ settled-from c given small long =
       store = λ w v. refl;
       look = λ t vs. sym (lanes-one (λ j. bit t (number (map (lane j) (map bit-of vs)))) ∙ ap (λ l. bit-of (bit t (number l))) (lowest-back vs));
     }
-
-pub length-settled : (c : Circuit) (s m : List Bool) → length s ≡ share-count c → length (settled c s m) ≡ wire-count c
-length-settled c s m e = length-carry (bits m) (c .drivers) 0 s ∙ ap (λ k. k + length (c .drivers)) e
 
 pub length-settled-bytes : (c : Circuit) (given : List ℕ) → share-count c ≤ length given → length (settled-bytes c given) ≡ wire-count c
 length-settled-bytes c given h =

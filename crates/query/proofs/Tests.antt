@@ -10,8 +10,8 @@ use borrow.Author.Tests.{lt-ltb, le-ltb, ltb-true, ltb-false, eqb-true}
 use Rattle.std.proofs.shelf.Lists.{drop-more, drop-all}
 use Rattle.std.specs.declared.result.Result.{Result}
 use Rattle.std.specs.declared.result.Result.the-variants.{Ok, Err}
-use Rattle.netlist.specs.declared.fault.NetlistFault.{NetlistFault}
-use Rattle.netlist.specs.declared.fault.NetlistFault.the-variants.{Bit, Given, Memory, Wire}
+use Rattle.fault.specs.declared.NetlistFault.{NetlistFault}
+use Rattle.fault.specs.declared.NetlistFault.the-variants.{Bit, Given, Memory, Wire}
 use Rattle.netlist.specs.Circuit.{Circuit, share-count, wire-count, mask-count}
 use Rattle.query.specs.Answers.{Answer, and-then, room-answer, given-answer, bits-answer, wire-answer}
 

@@ -8,10 +8,10 @@ use lib.ListN.{length, take, drop}
 use Rattle.std.specs.Iters.{counting}
 use Rattle.std.specs.declared.result.Result.{Result}
 use Rattle.std.specs.declared.result.Result.the-variants.{Ok, Err}
-use Rattle.netlist.specs.declared.fault.NetlistFault.{NetlistFault}
-use Rattle.netlist.specs.declared.fault.NetlistFault.the-variants.{Wire, Given, Bit, Memory}
+use Rattle.fault.specs.declared.NetlistFault.{NetlistFault}
+use Rattle.fault.specs.declared.NetlistFault.the-variants.{Wire, Given, Bit, Memory}
 use Rattle.netlist.specs.Circuit.{Circuit, share-count, wire-count, mask-count, settled, seen, bit-of}
-use Rattle.traverse.specs.Values.{lane}
+use Rattle.value.specs.Values.{lane}
 
 abbrev pub Answer : Type 0
 Answer = Result (Unit {0}) NetlistFault

@@ -3,12 +3,12 @@ ghost use mathlib.Core.Path.{_≡_};
 ghost use Rattle.query.specs.Answers.{room-answer, given-answer, bits-answer, wire-answer};
 ghost use Rattle.netlist.specs.Circuit.{wire-count};
 ghost use Rattle.netlist.specs.Nets.{circuit};
-use netlist::fault::NetlistFault;
+use fault::NetlistFault;
 use netlist::netlist::Netlist;
 use traverse::walk::masks;
 
 // Whether there is room for a value of each wire.
-pub fn check_room<N: Netlist>(netlist: &N, there: usize) -> Result<(), NetlistFault>
+pub(crate) fn check_room<N: Netlist>(netlist: &N, there: usize) -> Result<(), NetlistFault>
     ensures { λ r. ⌜ r ≡ room-answer (wire-count (circuit (net (now (netlist .entry))))) there ⌝ }
 {
     let needed = netlist.wires();
@@ -19,7 +19,7 @@ pub fn check_room<N: Netlist>(netlist: &N, there: usize) -> Result<(), NetlistFa
 }
 
 // Whether as many values came as settling needs.
-pub fn check_given<N: Netlist>(netlist: &N, came: usize) -> Result<(), NetlistFault>
+pub(crate) fn check_given<N: Netlist>(netlist: &N, came: usize) -> Result<(), NetlistFault>
     ensures { λ r. ⌜ r ≡ given-answer (circuit (net (now (netlist .entry)))) came ⌝ }
 {
     if came != 2 * netlist.inputs() + masks(netlist) {
@@ -29,7 +29,7 @@ pub fn check_given<N: Netlist>(netlist: &N, came: usize) -> Result<(), NetlistFa
 }
 
 // Whether all bytes are bits.
-pub fn check_bits(given: &[u8]) -> Result<(), NetlistFault>
+pub(crate) fn check_bits(given: &[u8]) -> Result<(), NetlistFault>
     ensures { λ r. ⌜ r ≡ bits-answer 0 (now (given .entry)) ⌝ }
 {
     for (i, b) in given.iter().enumerate() {
@@ -41,7 +41,7 @@ pub fn check_bits(given: &[u8]) -> Result<(), NetlistFault>
 }
 
 // Whether the netlist has such a wire.
-pub fn check_wire<N: Netlist>(netlist: &N, wire: usize) -> Result<(), NetlistFault>
+pub(crate) fn check_wire<N: Netlist>(netlist: &N, wire: usize) -> Result<(), NetlistFault>
     ensures { λ r. ⌜ r ≡ wire-answer (circuit (net (now (netlist .entry)))) wire ⌝ }
 {
     if wire < netlist.wires() {

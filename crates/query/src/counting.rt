@@ -5,10 +5,10 @@ ghost use Rattle.netlist.specs.Circuit.{wire-count, register-counts};
 ghost use Rattle.netlist.specs.Nets.{circuit};
 ghost use Rattle.query.specs.Answers.{room-answer, rewritten};
 use crate::checks::check_room;
-use netlist::fault::NetlistFault;
+use fault::NetlistFault;
 use netlist::netlist::Netlist;
-use traverse::counts::CountValue;
 use traverse::walk::carry;
+use value::counts::CountValue;
 
 // A count for each wire.
 pub fn count<N: Netlist>(netlist: &N, out: &mut [u16]) -> Result<(), NetlistFault>

@@ -9,9 +9,9 @@ ghost use Rattle.query.specs.Answers.{probe-answer, probe-bytes, rewritten};
 ghost use Rattle.query.specs.Marks.{handed-on};
 use crate::checks::check_room;
 use crate::checks::check_wire;
+use fault::NetlistFault;
 use netlist::cell::Cell;
 use netlist::cell::Kind;
-use netlist::fault::NetlistFault;
 use netlist::netlist::Netlist;
 use traverse::walk::cell_of;
 

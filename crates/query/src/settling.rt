@@ -2,15 +2,14 @@
 ghost use mathlib.Core.Path.{_≡_};
 ghost use lib.ListN.{length};
 ghost use Rattle.netlist.specs.Nets.{circuit};
-ghost use Rattle.query.specs.Answers.{settle-answer, settled-bytes, rewritten, lanes-answer, LanesAfter};
+ghost use Rattle.query.specs.Answers.{settle-answer, settled-bytes, rewritten};
 use crate::checks::check_bits;
 use crate::checks::check_given;
 use crate::checks::check_room;
-use netlist::fault::NetlistFault;
+use fault::NetlistFault;
 use netlist::netlist::Netlist;
-use traverse::bits::BitValue;
-use traverse::lanes::LaneValue;
 use traverse::walk::carry;
+use value::bits::BitValue;
 
 // From a byte for each share and then one for each mask, in wire order: a byte for each wire.
 pub fn settle<N: Netlist>(netlist: &N, given: &[u8], out: &mut [u8]) -> Result<(), NetlistFault>
@@ -20,21 +19,6 @@ pub fn settle<N: Netlist>(netlist: &N, given: &[u8], out: &mut [u8]) -> Result<(
     check_room(netlist, out.len())?;
     check_given(netlist, given.len())?;
     check_bits(given)?;
-    carry(netlist, given, out);
-    Ok(())
-}
-
-// 64 settlings at once, one in each lane of the words.
-pub fn settle_lanes<N: Netlist>(
-    netlist: &N,
-    given: &[u64],
-    out: &mut [u64],
-) -> Result<(), NetlistFault>
-    ensures answer { λ r. ⌜ r ≡ lanes-answer (circuit (net (now (netlist .entry)))) (length (now (given .entry))) (length (now (out .entry))) ⌝ }
-    ensures after { λ r. ⌜ LanesAfter r (circuit (net (now (netlist .entry)))) (now (given .entry)) (now (out .entry)) (now (out .exit)) ⌝ }
-{
-    check_room(netlist, out.len())?;
-    check_given(netlist, given.len())?;
     carry(netlist, given, out);
     Ok(())
 }

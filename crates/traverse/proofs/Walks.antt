@@ -12,7 +12,8 @@ use Rattle.netlist.specs.Circuit.{carry, carried, more-fresh, fresh-after, mask
 use Rattle.netlist.specs.Cells.{driver, Fits, no-cell}
 use Rattle.netlist.specs.Nets.{Net, net-wires, circuit, CellsFit}
 use Rattle.netlist.proofs.Places.{fits-at}
-use Rattle.traverse.specs.Values.{Ops, given-values, filled, carried-from}
+use Rattle.value.specs.Values.{Ops}
+use Rattle.traverse.specs.Carrying.{given-values, filled, carried-from}
 
 -- a write at i leaves what is past it
 drop-write : {X : Type 0} (xs ys : List X) (i : ℕ) (y : X) → drop i xs ≡ drop i ys → drop (i + 1) (set xs i y) ≡ drop (i + 1) ys

@@ -1,6 +1,2 @@
-// What a wire carries, and the one traversal of a netlist that works it out.
-pub mod bits;
-pub mod counts;
-pub mod lanes;
+// The one traversal of a netlist, for whatever its wires carry.
 pub mod walk;
-pub mod wire_value;

@@ -6,11 +6,11 @@ ghost use lib.ListN.{length, getD, take, drop};
 ghost use Rattle.netlist.specs.Circuit.{carried, more-fresh, mask-count};
 ghost use Rattle.netlist.specs.Cells.{driver, Fits, no-cell};
 ghost use Rattle.netlist.specs.Nets.{net-wires, circuit};
-ghost use Rattle.traverse.specs.Values.{given-values, filled, carried-from};
-use crate::wire_value::WireValue;
+ghost use Rattle.traverse.specs.Carrying.{given-values, filled, carried-from};
 use netlist::cell::Cell;
 use netlist::cell::Kind;
 use netlist::netlist::Netlist;
+use value::wire_value::WireValue;
 
 // The number of fresh wires after a cell, if there were `k` before it.
 fn fresh_after(x: Cell, k: usize) -> usize

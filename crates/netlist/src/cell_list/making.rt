@@ -7,6 +7,10 @@ use crate::cell::Cell;
 use crate::cell_list::CellList;
 use crate::netlist::Netlist;
 
+const MOST_INPUTS: usize = 8;
+
+const MOST_WIRES: usize = 4096;
+
 static NO_CELLS: [Cell; 0] = [];
 
 impl<'a> CellList<'a> {
@@ -14,7 +18,7 @@ impl<'a> CellList<'a> {
     pub fn check(inputs: usize, cells: &[Cell]) -> bool
         ensures { λ r. ⌜ Decides r (Lawful (net-of inputs (now (cells .entry)))) ⌝ }
     {
-        if inputs < 1 || inputs > 8 || cells.len() > 4096 - 2 * inputs {
+        if inputs < 1 || inputs > MOST_INPUTS || cells.len() > MOST_WIRES - 2 * inputs {
             return false;
         }
         for k in 0..cells.len() {

@@ -1,6 +1,6 @@
 use mathlib.Core.Path.{_≡_, ap, _∙_}
 use native.Mathlib.Omega.{arith}
-use Rattle.netlist.specs.declared.fault.NetlistFault.the-variants.{Memory}
+use Rattle.fault.specs.declared.NetlistFault.the-variants.{Memory}
 use Rattle.netlist.specs.Circuit.{wire-count}
 use Rattle.netlist.specs.Nets.{circuit}
 use Rattle.netlist.proofs.Places.{wires-circuit}

@@ -5,7 +5,8 @@ use lib.ListN.{length}
 use Rattle.netlist.specs.Circuit.{wire-count, register-counts}
 use Rattle.netlist.specs.Nets.{circuit, net-wires}
 use Rattle.netlist.proofs.Places.{wires-circuit}
-use Rattle.traverse.specs.Values.{carried-from, count-ops}
+use Rattle.value.specs.Values.{count-ops}
+use Rattle.traverse.specs.Carrying.{carried-from}
 use Rattle.query.proofs.Tests.{room-known, rewritten-by}
 use Rattle.query.proofs.Settles.{counts-from, length-register-counts}
 use Rattle.query.proofs.counting.count.Needs as need

@@ -5,7 +5,8 @@ use lib.ListN.{length}
 use Rattle.netlist.specs.Circuit.{share-count, wire-count}
 use Rattle.netlist.specs.Nets.{circuit, net-wires}
 use Rattle.netlist.proofs.Places.{wires-circuit}
-use Rattle.traverse.specs.Values.{carried-from, lane-ops}
+use Rattle.value.specs.Values.{lane-ops}
+use Rattle.traverse.specs.Carrying.{carried-from}
 use Rattle.query.specs.Answers.{settled-bytes}
 use Rattle.query.proofs.Tests.{room-known, given-known, bits-below, passed, rewritten-by}
 use Rattle.query.proofs.Settles.{settled-from, length-settled-bytes}

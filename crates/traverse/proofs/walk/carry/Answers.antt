@@ -3,7 +3,7 @@ use mathlib.Core.List.{_++_}
 use Prim.Native.Nat.{_*_}
 use native.Mathlib.Omega.{arith}
 use Rattle.netlist.specs.Nets.{net-wires, circuit}
-use Rattle.traverse.specs.Values.{carried-from}
+use Rattle.traverse.specs.Carrying.{carried-from}
 use Rattle.traverse.proofs.Walks.{shares-placed, rest-kept}
 use Rattle.traverse.proofs.walk.carry.Needs as need
 

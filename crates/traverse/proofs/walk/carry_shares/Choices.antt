@@ -1,6 +1,6 @@
 use mathlib.Core.Path.{_≡_}
 use lib.ListN.{take, drop}
-use Rattle.traverse.specs.Values.{filled}
+use Rattle.traverse.specs.Carrying.{filled}
 use Rattle.traverse.proofs.walk.carry_shares.Given as given
 
 abbrev pub Inv-loop-i : given.InvT-loop-i

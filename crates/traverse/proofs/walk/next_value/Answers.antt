@@ -6,7 +6,7 @@ use lib.ListN.{take}
 use Rattle.netlist.specs.declared.cell.Cell.{Cell}
 use Rattle.netlist.specs.Circuit.{carried, more-fresh}
 use Rattle.netlist.specs.Cells.{driver}
-use Rattle.traverse.specs.Values.{given-values}
+use Rattle.traverse.specs.Carrying.{given-values}
 use Rattle.traverse.proofs.Walks.{fits-below}
 use Rattle.traverse.proofs.walk.next_value.Needs as need
 

@@ -1,6 +1,0 @@
-use mathlib.Core.Path.{sym, _∙_}
-use Rattle.traverse.proofs.LaneLaws.{lane-digit}
-use Rattle.traverse.proofs.bits.table_bit.Needs as need
-
-pub returns : need.returns
-returns c = sym (lane-digit (c .args .i) (c .args .table))

@@ -1,9 +1,0 @@
-use mathlib.Core.List.{_∷_, []}
-use native.Mathlib.Omega.{arith}
-use Rattle.netlist.specs.Circuit.{number}
-use Rattle.traverse.specs.Values.{lane}
-use Rattle.traverse.proofs.LaneLaws.{pick-half}
-use Rattle.traverse.proofs.lanes.look3.Needs as need
-
-pub returns : need.returns
-returns c j h = pick-half (c .args .table) (number (lane j (c .args .a) ∷ lane j (c .args .b) ∷ [])) 4 _ (lane j (c .args .c)) _ _ _ (c .pick .ensures j) (c .look2 .ensures j h) (c .look2-2 .ensures j h) (omega arith)

@@ -1,5 +1,0 @@
-use Rattle.traverse.proofs.LaneLaws.{pick-lane}
-use Rattle.traverse.proofs.lanes.pick.Needs as need
-
-pub returns : need.returns
-returns c j = pick-lane j (c .args .x) (c .args .lo) (c .args .hi)
