@@ -1,0 +1,2 @@
+// Blocks: truth tables, and netlists that compute them.
+pub mod blocks;

@@ -1,0 +1,1 @@
+// Block files: checking, viewing and writing them.
