@@ -103,48 +103,50 @@ fn count_line(heap: Global, netlist: &CellList) -> Result<String, AllocError> {
     spaced(heap, &out)
 }
 
+// One line: a label and what follows it.
+fn say(rt: &LibcRuntime, label: &str, text: String) -> Result<(), AnyError> {
+    println!(rt, "{label}: {text}")?;
+    Ok(())
+}
+
+fn sizes(heap: Global, netlist: &CellList) -> Result<String, AllocError> {
+    let inputs = netlist.inputs();
+    let wires = netlist.wires();
+    let masks = masks(netlist);
+    format!(heap, "{inputs} inputs, {wires} wires, {masks} masks")
+}
+
 fn show(rt: &LibcRuntime, netlist: &CellList) -> Result<(), AnyError> {
     let heap = rt.alloc();
-    println!(
+    say(rt, "netlist", sizes(heap, netlist)?)?;
+    say(
         rt,
-        "netlist: {} inputs, {} wires, {} masks",
-        netlist.inputs(),
-        netlist.wires(),
-        masks(netlist)
+        "shares 1 0, mask 1 settle to",
+        settle_line(heap, netlist, &[1, 0, 1])?,
     )?;
-    println!(
+    say(
         rt,
-        "shares 1 0, mask 1 settle to: {}",
-        settle_line(heap, netlist, &[1, 0, 1])?
+        "shares 1 1, mask 0 settle to",
+        settle_line(heap, netlist, &[1, 1, 0])?,
     )?;
-    println!(
+    say(
         rt,
-        "shares 1 1, mask 0 settle to: {}",
-        settle_line(heap, netlist, &[1, 1, 0])?
+        "a probe on wire 3 sees wires",
+        probe_line(heap, netlist, 3)?,
     )?;
-    println!(
+    say(
         rt,
-        "a probe on wire 3 sees wires: {}",
-        probe_line(heap, netlist, 3)?
+        "a probe on wire 6 sees wires",
+        probe_line(heap, netlist, 6)?,
     )?;
-    println!(
+    say(rt, "registers before each wire", count_line(heap, netlist)?)?;
+    say(rt, "a probe on wire 7", probe_line(heap, netlist, 7)?)?;
+    say(rt, "too few bytes", settle_line(heap, netlist, &[1, 0])?)?;
+    say(
         rt,
-        "a probe on wire 6 sees wires: {}",
-        probe_line(heap, netlist, 6)?
-    )?;
-    println!(
-        rt,
-        "registers before each wire: {}",
-        count_line(heap, netlist)?
-    )?;
-    println!(rt, "a probe on wire 7: {}", probe_line(heap, netlist, 7)?)?;
-    println!(
-        rt,
-        "too few bytes: {}",
-        settle_line(heap, netlist, &[1, 0])?
-    )?;
-    println!(rt, "netlists worked out by hand: {}", worked_examples())?;
-    Ok(())
+        "netlists worked out by hand",
+        worked_examples().to_string(heap)?,
+    )
 }
 
 fn main(rt: LibcRuntime) -> Result<(), AnyError> {
