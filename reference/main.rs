@@ -1,9 +1,15 @@
-//! A second program for masked netlists, written from the rules alone. It
-//! writes the outputs that the verified library must give as well.
+//! A second program for masked netlists and block files, written from the
+//! rules alone. It writes the outputs that the verified library must give as
+//! well.
 
 mod bench;
+mod block;
+mod file;
+mod hash;
 mod netlist;
 mod numbers;
+mod table;
+mod vectors_files;
 mod vectors_netlist;
 
 use std::env;
@@ -11,21 +17,34 @@ use std::error::Error;
 use std::io::{self, BufWriter, Write};
 use std::process::ExitCode;
 
-const USAGE: &str = "usage: vectors netlist | bench netlist REPEATS";
+const USAGE: &str = "usage: vectors netlist | vectors files | files longest | \
+    bench netlist REPEATS | bench files REPEATS | bench check REPEATS";
 
 /// What the arguments ask for.
 enum Task {
     NetlistVectors,
-    NetlistBench { repeats: u64 },
+    FileVectors,
+    LongestFile,
+    Bench { work: Work, repeats: u64 },
+}
+
+/// What is done repeatedly.
+enum Work {
+    Settle,
+    Read,
+    Check,
 }
 
 impl Task {
     fn from_words(words: &[&str]) -> Option<Task> {
         match words {
             ["vectors", "netlist"] => Some(Task::NetlistVectors),
-            ["bench", "netlist", repeats] => {
+            ["vectors", "files"] => Some(Task::FileVectors),
+            ["files", "longest"] => Some(Task::LongestFile),
+            ["bench", work, repeats] => {
+                let work = Work::from_word(work)?;
                 let repeats = repeats.parse().ok()?;
-                Some(Task::NetlistBench { repeats })
+                Some(Task::Bench { work, repeats })
             }
             _ => None,
         }
@@ -35,11 +54,32 @@ impl Task {
         let mut out = BufWriter::new(io::stdout().lock());
         match self {
             Task::NetlistVectors => vectors_netlist::write_vectors(&mut out)?,
-            Task::NetlistBench { repeats } => {
-                writeln!(out, "checksum {}", bench::settle_repeatedly(repeats)?)?;
+            Task::FileVectors => vectors_files::write_vectors(&mut out)?,
+            Task::LongestFile => out.write_all(&bench::longest_file()?)?,
+            Task::Bench { work, repeats } => {
+                writeln!(out, "checksum {}", work.repeat(repeats)?)?;
             }
         }
         Ok(out.flush()?)
+    }
+}
+
+impl Work {
+    fn from_word(word: &str) -> Option<Work> {
+        match word {
+            "netlist" => Some(Work::Settle),
+            "files" => Some(Work::Read),
+            "check" => Some(Work::Check),
+            _ => None,
+        }
+    }
+
+    fn repeat(self, repeats: u64) -> Result<u64, Box<dyn Error>> {
+        match self {
+            Work::Settle => bench::settle_repeatedly(repeats),
+            Work::Read => bench::read_repeatedly(repeats),
+            Work::Check => bench::check_repeatedly(repeats),
+        }
     }
 }
 

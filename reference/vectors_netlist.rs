@@ -7,7 +7,7 @@ use std::io::Write;
 use crate::netlist::{count_registers, is_lawful, probe, settle, Cell, Fault, Kind, Netlist};
 use crate::numbers::Numbers;
 
-type Outcome<T = ()> = Result<T, Box<dyn Error>>;
+pub type Outcome<T = ()> = Result<T, Box<dyn Error>>;
 
 const SEED: u64 = 1;
 const NETLISTS: usize = 320;
@@ -241,7 +241,7 @@ fn draw_refusals(
 }
 
 /// A copy of `bytes` with `value` at `index`.
-fn with_byte(bytes: &[u8], index: usize, value: u8) -> Vec<u8> {
+pub fn with_byte(bytes: &[u8], index: usize, value: u8) -> Vec<u8> {
     let mut copy = bytes.to_vec();
     copy[index] = value;
     copy
