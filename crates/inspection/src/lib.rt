@@ -1,0 +1,3 @@
+// What a person asks of a block, by a few words, and the text that answers it.
+pub mod answering;
+pub mod words;
