@@ -1,4 +1,5 @@
-// A short tour: one small netlist, from its cells to what its wires carry and what a probe sees.
+// A short tour: a small netlist, from its cells to what its wires carry and what a probe sees; a table and a block's file.
+use crate::blocks::show_block;
 use lines::answers::counts_line;
 use lines::answers::probe_line;
 use lines::answers::settle_line;
@@ -12,6 +13,8 @@ use std::alloc::AllocError;
 use std::alloc::Global;
 use std::error::AnyError;
 use traverse::walk::masks;
+
+mod blocks;
 
 fn cell(kind: Kind, a: u16, b: u16) -> Cell {
     Cell {
@@ -82,7 +85,12 @@ fn show_netlist(rt: &LibcRuntime, netlist: &CellList) -> Result<(), AnyError> {
     )
 }
 
-fn main(rt: LibcRuntime) -> Result<(), AnyError> {
+fn run(rt: &LibcRuntime) -> Result<(), AnyError> {
     let cells = refresh();
-    rt.report(show_netlist(&rt, &CellList::new(1, &cells)))
+    show_netlist(rt, &CellList::new(1, &cells))?;
+    show_block(rt)
+}
+
+fn main(rt: LibcRuntime) -> Result<(), AnyError> {
+    rt.report(run(&rt))
 }

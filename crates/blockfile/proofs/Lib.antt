@@ -1,0 +1,14 @@
+pub mod Steps
+pub mod Numbers
+pub mod Opening
+pub mod Bounds
+pub mod Cells
+pub mod Pairs
+pub mod Bodies
+pub mod Blocks
+pub mod Parts
+pub mod Checks
+pub mod Accepted
+pub mod Placing
+pub mod Items
+pub mod Written

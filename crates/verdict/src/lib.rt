@@ -1,0 +1,1 @@
+// The rules that a block is judged by.
