@@ -1,1 +1,5 @@
+pub mod Examples
 pub mod Rules
+pub mod Stations
+pub mod Theorems
+pub mod Verdict
