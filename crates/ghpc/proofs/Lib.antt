@@ -5,6 +5,7 @@ pub mod Fits
 pub mod Frame
 pub mod Fresh
 pub mod GhpcAccepted
+pub mod GhpcAnswers
 pub mod GhpcByNumber
 pub mod GhpcClean
 pub mod GhpcCounts
@@ -17,7 +18,9 @@ pub mod GhpcWires
 pub mod Inputs
 pub mod Known
 pub mod Latency
+pub mod Looks
 pub mod LowAccepted
+pub mod LowAnswers
 pub mod LowByNumber
 pub mod LowClean
 pub mod LowCounts

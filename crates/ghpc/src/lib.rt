@@ -1,6 +1,11 @@
 // Blocks from truth tables: two constructions, and what holds of every block that they make.
 ghost use Rattle.ghpc.specs.Theorems.{Ghpc-lawful, Low-latency-lawful, Ghpc-counts, Low-latency-counts, Ghpc-recombines, Low-latency-recombines, Ghpc-settles, Low-latency-settles, Ghpc-sees, Low-latency-sees, Ghpc-accepted, Low-latency-accepted, Ghpc-by-wire, Low-latency-by-wire};
 
+mod gates;
+pub mod ghpc;
+pub mod low_latency;
+pub mod report;
+
 // The GHPC block of every lawful table is lawful.
 pub fn ghpc_lawful() -> u8
     ensures { λ _. ⌜ Ghpc-lawful ⌝ }
