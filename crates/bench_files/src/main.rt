@@ -1,4 +1,6 @@
 // Checks and views a block file many times over; to be timed from outside.
+#![tactic(auto)]
+
 use blockfile::checking::check;
 use blockfile::file_view::viewing::view;
 use netlist::netlist::Netlist;

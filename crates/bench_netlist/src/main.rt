@@ -1,4 +1,6 @@
 // Settles one large netlist many times, to be measured from outside, and prints a checksum.
+#![tactic(auto)]
+
 use anyhow::Context;
 use draw::cells::{draw_bits, draw_cells};
 use draw::numbers::Numbers;

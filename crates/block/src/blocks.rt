@@ -15,15 +15,15 @@ pub trait Block: Netlist {
 
     fn outputs(&self) -> usize
         ensures value { result ≡ (block self.now).table.m }
-        ensures part { Self.Netlist.net self.now ≡ net_part (block self.now) };
+        ensures part { Self.net self.now ≡ net_part (block self.now) };
 
     // The table's entry at an argument, and none past the last.
     fn entry(&self, argument: usize) -> Option<u8>
         ensures value { result ≡ nth (block self.now).table.entries argument }
-        ensures part { Self.Netlist.net self.now ≡ net_part (block self.now) };
+        ensures part { Self.net self.now ≡ net_part (block self.now) };
 
     // The wires of an output, that of domain 0 first, and none past the last output.
     fn output(&self, c: usize) -> Option<(u16, u16)>
         ensures value { result ≡ nth (block self.now).outputs c }
-        ensures part { Self.Netlist.net self.now ≡ net_part (block self.now) };
+        ensures part { Self.net self.now ≡ net_part (block self.now) };
 }

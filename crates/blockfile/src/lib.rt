@@ -1,4 +1,6 @@
 // Block files: checking, viewing and writing them.
+#![tactic(auto)]
+
 pub mod checking;
 pub mod examples;
 mod fields;

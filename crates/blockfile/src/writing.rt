@@ -24,10 +24,10 @@ struct Sizes {
 }
 
 fn sizes_of<B: Block>(source: &B) -> Sizes
-    ensures inputs { result.inputs ≡ (block source.now).table.n }
-    ensures outputs { result.outputs ≡ (block source.now).table.m }
-    ensures cells { result.cells ≡ length (block source.now).cells }
-    ensures part { B.Netlist.net source.now ≡ net_part (block source.now) }
+    ensures inputs { result.inputs ≡ (B.block source.now).table.n }
+    ensures outputs { result.outputs ≡ (B.block source.now).table.m }
+    ensures cells { result.cells ≡ length (B.block source.now).cells }
+    ensures part { B.net source.now ≡ net_part (B.block source.now) }
 {
     let outputs = source.outputs();
     let inputs = source.inputs();
@@ -40,8 +40,8 @@ fn sizes_of<B: Block>(source: &B) -> Sizes
 
 // The entry at an argument that has one.
 fn entry_of<B: Block>(source: &B, argument: usize) -> u8
-    requires { argument < length (block source.now).table.entries }
-    ensures { result ≡ slice_index (block source.now).table.entries argument }
+    requires { argument < length (B.block source.now).table.entries }
+    ensures { result ≡ slice_index (B.block source.now).table.entries argument }
 {
     match source.entry(argument) {
         Some(e) => e,
@@ -51,10 +51,10 @@ fn entry_of<B: Block>(source: &B, argument: usize) -> u8
 
 // Cell number `k`, where there is one.
 fn cell_of<B: Block>(source: &B, first: usize, k: usize) -> Cell
-    requires part { B.Netlist.net source.now ≡ net_part (block source.now) }
-    requires shares { first ≡ 2 * (block source.now).table.n }
-    requires within { k < length (block source.now).cells }
-    ensures { result ≡ slice_index_or (block source.now).cells k no_cell }
+    requires part { B.net source.now ≡ net_part (B.block source.now) }
+    requires shares { first ≡ 2 * (B.block source.now).table.n }
+    requires within { k < length (B.block source.now).cells }
+    ensures { result ≡ slice_index_or (B.block source.now).cells k no_cell }
 {
     match source.cell(first + k) {
         Some(x) => x,
@@ -64,8 +64,8 @@ fn cell_of<B: Block>(source: &B, first: usize, k: usize) -> Cell
 
 // The wires of an output that there is.
 fn output_of<B: Block>(source: &B, c: usize) -> (u16, u16)
-    requires { c < length (block source.now).outputs }
-    ensures { result ≡ slice_index_or (block source.now).outputs c (0, 0) }
+    requires { c < length (B.block source.now).outputs }
+    ensures { result ≡ slice_index_or (B.block source.now).outputs c (0, 0) }
 {
     match source.output(c) {
         Some(wires) => wires,
@@ -75,9 +75,9 @@ fn output_of<B: Block>(source: &B, c: usize) -> (u16, u16)
 
 // The entries of the table.
 fn put_entries<B: Block>(source: &B, size: usize, out: &mut [u8], at: usize)
-    requires size { size ≡ length (block source.now).table.entries }
+    requires size { size ≡ length (B.block source.now).table.entries }
     requires room { at + size ≤ length out.old }
-    ensures { out.new ≡ put_at at (block source.now).table.entries out.old }
+    ensures { out.new ≡ put_at at (B.block source.now).table.entries out.old }
 {
     for k in 0..size {
         out[at + k] = entry_of(source, k);
@@ -86,10 +86,10 @@ fn put_entries<B: Block>(source: &B, size: usize, out: &mut [u8], at: usize)
 
 // The fields of the sizes and of the entries.
 fn put_table<B: Block>(source: &B, sizes: Sizes, out: &mut [u8])
-    requires inputs { sizes.inputs ≡ (block source.now).table.n }
-    requires outputs { sizes.outputs ≡ (block source.now).table.m }
-    requires room { 8 + 2 ^ (block source.now).table.n ≤ length out.old }
-    ensures { out.new ≡ put_at 0 (field 1 ((block source.now).table.n ∷ (block source.now).table.m ∷ []) ++ field 2 (block source.now).table.entries) out.old }
+    requires inputs { sizes.inputs ≡ (B.block source.now).table.n }
+    requires outputs { sizes.outputs ≡ (B.block source.now).table.m }
+    requires room { 8 + 2 ^ (B.block source.now).table.n ≤ length out.old }
+    ensures { out.new ≡ put_at 0 (field 1 ((B.block source.now).table.n ∷ (B.block source.now).table.m ∷ []) ++ field 2 (B.block source.now).table.entries) out.old }
 {
     let size = power_of_two(sizes.inputs);
     put_header(out, 0, SIZES, 2);
@@ -101,11 +101,11 @@ fn put_table<B: Block>(source: &B, sizes: Sizes, out: &mut [u8])
 
 // The fields of the cells.
 fn put_cells<B: Block>(source: &B, sizes: Sizes, out: &mut [u8], at: usize)
-    requires part { B.Netlist.net source.now ≡ net_part (block source.now) }
-    requires inputs { sizes.inputs ≡ (block source.now).table.n }
-    requires cells { sizes.cells ≡ length (block source.now).cells }
+    requires part { B.net source.now ≡ net_part (B.block source.now) }
+    requires inputs { sizes.inputs ≡ (B.block source.now).table.n }
+    requires cells { sizes.cells ≡ length (B.block source.now).cells }
     requires room { at + 14 * sizes.cells ≤ length out.old }
-    ensures { out.new ≡ put_at at (cell_fields (block source.now).cells) out.old }
+    ensures { out.new ≡ put_at at (cell_fields (B.block source.now).cells) out.old }
 {
     let first = 2 * usize::from(sizes.inputs);
     for k in 0..sizes.cells {
@@ -116,9 +116,9 @@ fn put_cells<B: Block>(source: &B, sizes: Sizes, out: &mut [u8], at: usize)
 
 // The pairs of the outputs.
 fn put_pairs<B: Block>(source: &B, m: usize, out: &mut [u8], at: usize)
-    requires outputs { m ≡ length (block source.now).outputs }
+    requires outputs { m ≡ length (B.block source.now).outputs }
     requires room { at + 4 * m ≤ length out.old }
-    ensures { out.new ≡ put_at at (pair_bytes (block source.now).outputs) out.old }
+    ensures { out.new ≡ put_at at (pair_bytes (B.block source.now).outputs) out.old }
 {
     for c in 0..m {
         let (zeroth, first) = output_of(source, c);
@@ -129,9 +129,9 @@ fn put_pairs<B: Block>(source: &B, m: usize, out: &mut [u8], at: usize)
 
 // The field of the outputs.
 fn put_outputs<B: Block>(source: &B, sizes: Sizes, out: &mut [u8], at: usize)
-    requires outputs { sizes.outputs ≡ (block source.now).table.m }
+    requires outputs { sizes.outputs ≡ (B.block source.now).table.m }
     requires room { at + 3 + 4 * sizes.outputs ≤ length out.old }
-    ensures { out.new ≡ put_at at (field 4 (pair_bytes (block source.now).outputs)) out.old }
+    ensures { out.new ≡ put_at at (field 4 (pair_bytes (B.block source.now).outputs)) out.old }
 {
     let m = usize::from(sizes.outputs);
     put_header(out, at, OUTPUTS, 4 * u16::from(sizes.outputs));
@@ -140,8 +140,8 @@ fn put_outputs<B: Block>(source: &B, sizes: Sizes, out: &mut [u8], at: usize)
 
 // Writes the file of a block into memory, and answers its length; or how much memory it needs, and changes nothing.
 pub fn write<B: Block>(source: &B, out: &mut [u8]) -> Result<usize, NetlistFault>
-    ensures answer { result ≡ write_answer (length (file_of (block source.now))) (length out.old) }
-    ensures memory { out.new ≡ after_write result (file_of (block source.now)) out.old }
+    ensures answer { result ≡ write_answer (length (file_of (B.block source.now))) (length out.old) }
+    ensures memory { out.new ≡ after_write result (file_of (B.block source.now)) out.old }
     ensures read { WrittenIsRead }
     ensures one { OneFileEach }
 {

@@ -1,4 +1,6 @@
 // Why something was refused: a cause, the layer that met it, and a place.
+#![tactic(auto)]
+
 ghost use Rattle.std.specs.Prelude.{◌≡◌};
 ghost use Rattle.fault.specs.declared.NetlistFault.TheVariants.{Field};
 ghost use Rattle.fault.specs.declared.Report.{Report};

@@ -6,7 +6,7 @@ use Rattle.netlist.specs.Nets.{Net, Lawful}
 use Rattle.block.specs.Blocks.{Whole, LawfulTable, LawfulBlock, net_part}
 use Rattle.block.specs.Tables.{tabled, tabled_lawful}
 use Rattle.ghpc.specs.declared.ghpc.Ghpc.{Ghpc}
-use Rattle.construction.specs.Ghpc.{outputs_of, ghpc_of}
+use Rattle.ghpc.specs.Ghpc.{outputs_of, ghpc_of}
 
 abbrev pub ghpc_block : Ghpc → Whole
 ghpc_block x = ghpc_of (tabled x.table)

@@ -1,20 +1,25 @@
 -- What a GHPC_LL block in memory means, its bounds, and what filling one answers.
-use Rattle.std.specs.Prelude.{◌≡◌, ℕ, Ok, Err, Result}
+use Rattle.std.specs.Prelude.{◌≡◌, ℕ, ◌*◌, cond, Ok, Err, Result, nat_le}
 use Rattle.std.proofs.Common.{arith}
 use Rattle.std.proofs.lemmas.List.FromFn.{length-map-range_with_len}
 use Rattle.fault.specs.declared.NetlistFault.{NetlistFault}
+use Rattle.fault.specs.declared.NetlistFault.TheVariants.{MaskLimit}
 use Rattle.netlist.specs.Nets.{Net, Lawful}
 use Rattle.block.specs.Blocks.{Table, Whole, LawfulTable, LawfulBlock, net_part}
 use Rattle.block.specs.Tables.{tabled, tabled_lawful}
 use Rattle.ghpc.specs.declared.low_latency.GhpcLl.{GhpcLl}
-use Rattle.construction.specs.Gates.{argument_count}
-use Rattle.construction.specs.LowLatency.{outputs_of, low_latency_of}
+use Rattle.ghpc.specs.Gates.{argument_count}
+use Rattle.ghpc.specs.LowLatency.{outputs_of, low_latency_of}
 
 abbrev pub low_latency_block : GhpcLl → Whole
 low_latency_block x = low_latency_of (tabled x.table)
 
 abbrev pub low_latency_net : GhpcLl → Net
 low_latency_net x = net_part (low_latency_block x)
+
+-- a table that asks for more than 8 masks is refused
+abbrev pub mask_answer : Table → Result (Unit {0}) NetlistFault
+mask_answer t = cond (nat_le (t.m * argument_count t) 8) (Ok tt) (Err MaskLimit)
 
 -- what the caller's block is after filling: that of the new table, or the old one
 abbrev pub Filled : Result (Unit {0}) NetlistFault → Table → GhpcLl → GhpcLl → Type 0

@@ -4,8 +4,8 @@ ghost use Rattle.netlist.specs.Nets.{nth};
 ghost use Rattle.isolation.specs.Patterns.{share_wire};
 ghost use Rattle.block.specs.Blocks.{output_at};
 ghost use Rattle.block.specs.Tables.{tabled};
-ghost use Rattle.construction.specs.Gates.{each, argument_count, table_of, look_kind, cell_of, cell_gates, domain_shares};
-ghost use Rattle.construction.specs.Chains.{chain_wire};
+ghost use Rattle.ghpc.specs.Gates.{each, argument_count, table_of, look_kind, cell_of, cell_gates, domain_shares};
+ghost use Rattle.ghpc.specs.Chains.{chain_wire};
 
 use block::table::TruthTable;
 use netlist::cell::{Cell, Kind};

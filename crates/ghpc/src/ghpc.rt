@@ -3,7 +3,7 @@ ghost use Rattle.std.specs.Prelude.{ℕ, ◌<◌, ◌≤◌, slice_index_or};
 ghost use Rattle.netlist.specs.Nets.{CellsFit, net_wires};
 ghost use Rattle.block.specs.Blocks.{net_part};
 ghost use Rattle.block.specs.Tables.{tabled};
-ghost use Rattle.construction.specs.Ghpc.{ghpc_of};
+ghost use Rattle.ghpc.specs.Ghpc.{ghpc_of};
 
 use block::table::TruthTable;
 

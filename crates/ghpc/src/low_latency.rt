@@ -3,8 +3,8 @@ ghost use Rattle.std.specs.Prelude.{ℕ, ◌*◌, ◌<◌, ◌≤◌, slice_inde
 ghost use Rattle.netlist.specs.Nets.{CellsFit, net_wires};
 ghost use Rattle.block.specs.Blocks.{net_part};
 ghost use Rattle.block.specs.Tables.{tabled};
-ghost use Rattle.construction.specs.Gates.{argument_count};
-ghost use Rattle.construction.specs.LowLatency.{low_latency_of};
+ghost use Rattle.ghpc.specs.Gates.{argument_count};
+ghost use Rattle.ghpc.specs.LowLatency.{low_latency_of};
 
 use block::table::TruthTable;
 

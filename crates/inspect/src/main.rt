@@ -1,4 +1,6 @@
 // Shows a person what is in a block file: its parts, what its wires settle to, what a probe sees, its register counts.
+#![tactic(auto)]
+
 use inspection::answering::usage;
 use inspection::inspecting::inspect;
 use inspection::words::read_words;

@@ -4,5 +4,4 @@ pub mod Equations
 pub mod Patterns
 pub mod Shifts
 pub mod Sums
-pub mod Tests
 pub mod Theorems

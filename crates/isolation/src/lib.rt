@@ -1,4 +1,6 @@
 // What holds of every circuit: lemmas in proofs/, and the theorems that other crates rest on.
+#![tactic(auto)]
+
 ghost use Rattle.isolation.specs.Theorems.{EquationsFixValues, ProbeDeterminesWire, CleanWeighsEqually, SubsetIsClean, WorkedOutIsClean, ShiftKeepsSum, RestoredIsClean, CleanHoldsNoOtherShare, CleanHidesPlainInputs};
 
 // A list that meets the equation of each driver is what the wires carry.

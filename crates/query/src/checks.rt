@@ -10,7 +10,7 @@ use traverse::walk::masks;
 
 // Whether there is room for a value of each wire.
 pub(crate) fn check_room<N: Netlist>(netlist: &N, there: usize) -> Result<(), NetlistFault>
-    ensures { result ≡ room_answer (wire_count (circuit (net netlist.now))) there }
+    ensures { result ≡ room_answer (wire_count (circuit (N.net netlist.now))) there }
 {
     let needed = netlist.wires();
     if there < needed {
@@ -21,7 +21,7 @@ pub(crate) fn check_room<N: Netlist>(netlist: &N, there: usize) -> Result<(), Ne
 
 // Whether as many values came as settling needs.
 pub(crate) fn check_given<N: Netlist>(netlist: &N, came: usize) -> Result<(), NetlistFault>
-    ensures { result ≡ given_answer (circuit (net netlist.now)) came }
+    ensures { result ≡ given_answer (circuit (N.net netlist.now)) came }
 {
     if came != 2 * netlist.inputs() + masks(netlist) {
         return Err(NetlistFault::Given(came));
@@ -43,7 +43,7 @@ pub(crate) fn check_bits(given: &[u8]) -> Result<(), NetlistFault>
 
 // Whether the netlist has such a wire.
 pub(crate) fn check_wire<N: Netlist>(netlist: &N, wire: usize) -> Result<(), NetlistFault>
-    ensures { result ≡ wire_answer (circuit (net netlist.now)) wire }
+    ensures { result ≡ wire_answer (circuit (N.net netlist.now)) wire }
 {
     if wire < netlist.wires() {
         return Ok(());

@@ -11,8 +11,8 @@ use traverse::walk::carry;
 
 // A count for each wire.
 pub fn count<N: Netlist>(netlist: &N, out: &mut [u16]) -> Result<(), NetlistFault>
-    ensures answer { result ≡ room_answer (wire_count (circuit (net netlist.now))) (length out.old) }
-    ensures after { out.new ≡ rewritten result (register_counts (circuit (net netlist.now))) out.old }
+    ensures answer { result ≡ room_answer (wire_count (circuit (N.net netlist.now))) (length out.old) }
+    ensures after { out.new ≡ rewritten result (register_counts (circuit (N.net netlist.now))) out.old }
 {
     check_room(netlist, out.len())?;
     carry(netlist, &[], out);

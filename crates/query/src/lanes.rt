@@ -14,8 +14,8 @@ pub fn settle_lanes<N: Netlist>(
     given: &[u64],
     out: &mut [u64],
 ) -> Result<(), NetlistFault>
-    ensures answer { result ≡ lanes_answer (circuit (net netlist.now)) (length given.now) (length out.old) }
-    ensures after { LanesAfter result (circuit (net netlist.now)) given.now out.old out.new }
+    ensures answer { result ≡ lanes_answer (circuit (N.net netlist.now)) (length given.now) (length out.old) }
+    ensures after { LanesAfter result (circuit (N.net netlist.now)) given.now out.old out.new }
 {
     check_room(netlist, out.len())?;
     check_given(netlist, given.len())?;

@@ -59,9 +59,9 @@ fn clear(marks: &mut [u8])
 
 // Marks what a probe on the wire sees.
 fn mark_seen<N: Netlist>(netlist: &N, wire: usize, marks: &mut [u8])
-    requires within { wire < net_wires (net netlist.now) }
-    requires long { length marks.old ≡ net_wires (net netlist.now) }
-    ensures { marks.new ≡ probe_bytes (circuit (net netlist.now)) wire }
+    requires within { wire < net_wires (N.net netlist.now) }
+    requires long { length marks.old ≡ net_wires (N.net netlist.now) }
+    ensures { marks.new ≡ probe_bytes (circuit (N.net netlist.now)) wire }
 {
     clear(marks);
     marks[wire] = 1;
@@ -73,9 +73,9 @@ fn mark_seen<N: Netlist>(netlist: &N, wire: usize, marks: &mut [u8])
 
 // A byte for each wire, 1 where a probe on `wire` sees it. What it sees determines what `wire` settles to.
 pub fn probe<N: Netlist>(netlist: &N, wire: usize, out: &mut [u8]) -> Result<(), NetlistFault>
-    ensures answer { result ≡ probe_answer (circuit (net netlist.now)) wire (length out.old) }
-    ensures after { out.new ≡ rewritten result (probe_bytes (circuit (net netlist.now)) wire) out.old }
-    ensures determines { Determines (circuit (net netlist.now)) wire }
+    ensures answer { result ≡ probe_answer (circuit (N.net netlist.now)) wire (length out.old) }
+    ensures after { out.new ≡ rewritten result (probe_bytes (circuit (N.net netlist.now)) wire) out.old }
+    ensures determines { Determines (circuit (N.net netlist.now)) wire }
 {
     check_room(netlist, out.len())?;
     check_wire(netlist, wire)?;

@@ -10,8 +10,8 @@ use traverse::walk::carry;
 
 // From a byte for each share and then one for each mask, in wire order: a byte for each wire.
 pub fn settle<N: Netlist>(netlist: &N, given: &[u8], out: &mut [u8]) -> Result<(), NetlistFault>
-    ensures answer { result ≡ settle_answer (circuit (net netlist.now)) given.now (length out.old) }
-    ensures after { out.new ≡ rewritten result (settled_bytes (circuit (net netlist.now)) given.now) out.old }
+    ensures answer { result ≡ settle_answer (circuit (N.net netlist.now)) given.now (length out.old) }
+    ensures after { out.new ≡ rewritten result (settled_bytes (circuit (N.net netlist.now)) given.now) out.old }
 {
     check_room(netlist, out.len())?;
     check_given(netlist, given.len())?;

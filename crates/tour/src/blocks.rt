@@ -31,7 +31,7 @@ fn table_text(heap: Global, entries: &[u8]) -> Result<String, AllocError> {
     }
 }
 
-pub fn check_text(heap: Global, bytes: &[u8]) -> Result<String, AllocError> {
+fn check_text(heap: Global, bytes: &[u8]) -> Result<String, AllocError> {
     match check(bytes) {
         Ok(()) => String::from_str(heap, "accepted"),
         Err(fault) => refusal(heap, fault.report()),
@@ -39,8 +39,8 @@ pub fn check_text(heap: Global, bytes: &[u8]) -> Result<String, AllocError> {
 }
 
 // The block's file once more, and whether it is the same.
-pub fn written_text(heap: Global, block: &FileView, bytes: &[u8]) -> Result<String, AllocError> {
-    let mut out = vec![in heap; 0u8; 512]?;
+fn written_text(heap: Global, block: &FileView, bytes: &[u8]) -> Result<String, AllocError> {
+    let mut out = vec![in heap; 0u8; 64]?;
     match write(block, &mut out) {
         Ok(length) => {
             let same = out.iter().take(length).eq(bytes.iter());

@@ -1,6 +1,7 @@
-// A short tour: a small netlist, from its cells to what its wires carry and what a probe sees; a table and a block's file; generated blocks.
+// A short tour: a small netlist, from its cells to what its wires carry and what a probe sees; a table and a block's file.
+#![tactic(auto)]
+
 use crate::blocks::show_block;
-use crate::generated::show_generated;
 use lines::answers::{counts_line, probe_line, settle_line};
 use netlist::cell::{Cell, Kind};
 use netlist::cell_list::CellList;
@@ -10,7 +11,6 @@ use std::alloc::{AllocError, Global};
 use traverse::walk::masks;
 
 mod blocks;
-mod generated;
 
 fn cell(kind: Kind, a: u16, b: u16) -> Cell {
     Cell {
@@ -84,8 +84,7 @@ fn show_netlist(rt: &HostRuntime, netlist: &CellList) -> anyhow::Result<()> {
 fn run(rt: &HostRuntime) -> anyhow::Result<()> {
     let cells = refresh();
     show_netlist(rt, &CellList::new(1, &cells))?;
-    show_block(rt)?;
-    show_generated(rt)
+    show_block(rt)
 }
 
 fn main(rt: HostRuntime) -> anyhow::Result<()> {

@@ -23,7 +23,7 @@ fn fresh_after(x: Cell, k: usize) -> usize
 
 // The value given at `i`, or none past the last.
 fn given_or_none<V: WireValue>(given: &[V], i: usize) -> V
-    ensures { result ≡ slice_index_or given.now i ops.none }
+    ensures { result ≡ slice_index_or given.now i V.ops.none }
 {
     if i < given.len() { given[i] } else { V::none() }
 }
@@ -31,7 +31,7 @@ fn given_or_none<V: WireValue>(given: &[V], i: usize) -> V
 // What a cell makes of the values below it; `k` fresh wires come before it.
 fn drive<V: WireValue>(x: Cell, below: &[V], given: &[V], k: usize) -> V
     requires { Fits (length below.now) x }
-    ensures { result ≡ carried (given_values ops given.now) (driver x) k below.now }
+    ensures { result ≡ carried (given_values V.ops given.now) (driver x) k below.now }
 {
     match x.kind {
         Kind::Mask => given_or_none(given, k),
@@ -66,9 +66,9 @@ fn drive<V: WireValue>(x: Cell, below: &[V], given: &[V], k: usize) -> V
 
 // The cell of a wire that has one; for crates that know it to have one.
 pub fn cell_of<N: Netlist>(netlist: &N, wire: usize) -> Cell
-    requires past_shares { 2 * (net netlist.now).inputs ≤ wire }
-    requires within { wire < net_wires (net netlist.now) }
-    ensures { result ≡ slice_index_or (net netlist.now).cells (wire - 2 * (net netlist.now).inputs) no_cell }
+    requires past_shares { 2 * (N.net netlist.now).inputs ≤ wire }
+    requires within { wire < net_wires (N.net netlist.now) }
+    ensures { result ≡ slice_index_or (N.net netlist.now).cells (wire - 2 * (N.net netlist.now).inputs) no_cell }
 {
     match netlist.cell(wire) {
         Some(x) => x,
@@ -78,7 +78,7 @@ pub fn cell_of<N: Netlist>(netlist: &N, wire: usize) -> Cell
 
 // How many of the cells are masks.
 pub fn masks<N: Netlist>(netlist: &N) -> usize
-    ensures value { result ≡ mask_count (circuit (net netlist.now)) }
+    ensures value { result ≡ mask_count (circuit (N.net netlist.now)) }
     ensures few { result ≤ 4096 }
 {
     let first = 2 * netlist.inputs();
@@ -97,12 +97,12 @@ fn next_value<N: Netlist, V: WireValue>(
     k: usize,
     out: &[V],
 ) -> (V, usize)
-    requires past_shares { 2 * (net netlist.now).inputs ≤ wire }
-    requires within { wire < net_wires (net netlist.now) }
-    requires room { net_wires (net netlist.now) ≤ length out.now }
+    requires past_shares { 2 * (N.net netlist.now).inputs ≤ wire }
+    requires within { wire < net_wires (N.net netlist.now) }
+    requires room { net_wires (N.net netlist.now) ≤ length out.now }
     requires few { k ≤ 4096 }
-    ensures value { result.0 ≡ carried (given_values ops given.now) (driver (slice_index_or (net netlist.now).cells (wire - 2 * (net netlist.now).inputs) no_cell)) k (take wire out.now) }
-    ensures fresh { result.1 ≡ more_fresh (driver (slice_index_or (net netlist.now).cells (wire - 2 * (net netlist.now).inputs) no_cell)) k }
+    ensures value { result.0 ≡ carried (given_values V.ops given.now) (driver (slice_index_or (N.net netlist.now).cells (wire - 2 * (N.net netlist.now).inputs) no_cell)) k (take wire out.now) }
+    ensures fresh { result.1 ≡ more_fresh (driver (slice_index_or (N.net netlist.now).cells (wire - 2 * (N.net netlist.now).inputs) no_cell)) k }
     ensures bound { result.1 ≤ k + 1 }
 {
     let x = cell_of(netlist, wire);
@@ -112,7 +112,7 @@ fn next_value<N: Netlist, V: WireValue>(
 // The values of the shares.
 fn carry_shares<V: WireValue>(shares: usize, given: &[V], out: &mut [V])
     requires { shares ≤ length out.old }
-    ensures { out.new ≡ filled shares ops.none given.now ++ drop shares out.old }
+    ensures { out.new ≡ filled shares V.ops.none given.now ++ drop shares out.old }
 {
     for i in 0..shares {
         out[i] = given_or_none(given, i);
@@ -121,9 +121,9 @@ fn carry_shares<V: WireValue>(shares: usize, given: &[V], out: &mut [V])
 
 // The values of the cells, behind those of the shares.
 fn carry_cells<N: Netlist, V: WireValue>(netlist: &N, given: &[V], out: &mut [V])
-    requires room { net_wires (net netlist.now) ≤ length out.old }
-    requires shares { take (2 * (net netlist.now).inputs) out.old ≡ filled (2 * (net netlist.now).inputs) ops.none given.now }
-    ensures { out.new ≡ carried_from ops (circuit (net netlist.now)) given.now ++ drop (net_wires (net netlist.now)) out.old }
+    requires room { net_wires (N.net netlist.now) ≤ length out.old }
+    requires shares { take (2 * (N.net netlist.now).inputs) out.old ≡ filled (2 * (N.net netlist.now).inputs) V.ops.none given.now }
+    ensures { out.new ≡ carried_from V.ops (circuit (N.net netlist.now)) given.now ++ drop (net_wires (N.net netlist.now)) out.old }
 {
     let first = 2 * netlist.inputs();
     let mut k = first;
@@ -136,8 +136,8 @@ fn carry_cells<N: Netlist, V: WireValue>(netlist: &N, given: &[V], out: &mut [V]
 
 // What every wire carries, from a value for each share and then one for each mask; for crates that have made room.
 pub fn carry<N: Netlist, V: WireValue>(netlist: &N, given: &[V], out: &mut [V])
-    requires { net_wires (net netlist.now) ≤ length out.old }
-    ensures { out.new ≡ carried_from ops (circuit (net netlist.now)) given.now ++ drop (net_wires (net netlist.now)) out.old }
+    requires { net_wires (N.net netlist.now) ≤ length out.old }
+    ensures { out.new ≡ carried_from V.ops (circuit (N.net netlist.now)) given.now ++ drop (net_wires (N.net netlist.now)) out.old }
 {
     carry_shares(2 * netlist.inputs(), given, out);
     carry_cells(netlist, given, out);

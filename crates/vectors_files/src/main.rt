@@ -1,4 +1,6 @@
 // Vectors for block files: short strings, drawn blocks with their files and damaged copies, a few named files, and truth tables.
+#![tactic(auto)]
+
 use crate::drawing::{Drawn, draw_block, push_cell};
 use crate::verdict::{hash, verdict};
 use draw::numbers::Numbers;

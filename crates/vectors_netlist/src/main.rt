@@ -1,4 +1,6 @@
 // Vectors for netlists: drawn netlists with the answers to their queries, queries that are refused, and damaged lists of cells.
+#![tactic(auto)]
+
 use draw::cells::draw_cells;
 use draw::numbers::Numbers;
 use netlist::cell_list::CellList;

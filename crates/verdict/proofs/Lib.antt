@@ -1,7 +1,7 @@
+pub mod Examples
 pub mod Judging
 pub mod Masks
 pub mod Passing
 pub mod Quick
 pub mod Rules
-pub mod Theorem
 pub mod Trees

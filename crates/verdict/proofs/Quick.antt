@@ -3,11 +3,11 @@ use Rattle.std.proofs.Common.{◌≡◌, ℕ, Bool, true, false, cond, ◌&&◌,
 use Rattle.fault.specs.declared.NetlistFault.{NetlistFault}
 use Rattle.netlist.specs.Circuit.{Circuit, Wires, mask_count, settled, seen}
 use Rattle.isolation.specs.Patterns.{pattern, one_if, same, shares, count}
-use Rattle.isolation.specs.Tests.{every, covered, tests_clean}
+use Rattle.isolation.proofs.Tests.{every, covered, tests_clean}
 use Rattle.block.specs.Blocks.{Whole}
 use Rattle.verdict.specs.declared.Acceptance.{Acceptance}
-use Rattle.verdict.specs.Rules.{circuit_of, bundle, Observation, on_wire, on_outputs}
-use Rattle.verdict.specs.Stations.{Station, wires, masks, output, breadth, isolation, fault_at, stations}
+use Rattle.verdict.specs.Rules.{circuit_of, bundle}
+use Rattle.verdict.specs.Stations.{Observation, on_wire, on_outputs, Station, wires, masks, output, breadth, isolation, fault_at, stations}
 use Rattle.verdict.specs.Verdict.{isolated, passes, acceptance, judged, verdict}
 use Rattle.verdict.proofs.Trees.{Tree, grown, all, total, first, mapped, grown_same, all_grown, total_grown, first_grown, mapped_grown, every_same}
 

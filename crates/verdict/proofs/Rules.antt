@@ -5,8 +5,8 @@ use Rattle.std.specs.List.{range_with_len, AllByRecursion as All}
 use Rattle.std.proofs.ByRecursion.{All-append}
 use Rattle.netlist.specs.Circuit.{wire_count}
 use Rattle.block.specs.Blocks.{Whole}
-use Rattle.verdict.specs.Rules.{circuit_of, Observation, on_wire, on_outputs, Accepted}
-use Rattle.verdict.specs.Stations.{Station, output, breadth, isolation, Holds, stations_of, observations, stations}
+use Rattle.verdict.specs.Rules.{circuit_of, Accepted}
+use Rattle.verdict.specs.Stations.{Observation, on_wire, on_outputs, Station, output, breadth, isolation, Holds, stations_of, observations, stations}
 
 module _ {X : Type 0} (P : X → Type 0) where
   all_counted : (f : ℕ → X) (a n : ℕ) → ((i : ℕ) → a ≤ i → i < a + n → P (f i)) → All P (map f (range_with_len a n))
@@ -50,7 +50,7 @@ module _ (b : Whole) where
     (
       h.sizes.1,
       All-append (Holds b) (map output (range_with_len 0 m)) (stations_of (observations b))
-          (all_counted (Holds b) output 0 m (λ c _ u. h.recombination c (omega arith)))
+          (all_counted (Holds b) output 0 m (λ c _ u x y k hx hy hk. h.recombination x y k hx hy hk c (omega arith)))
           (all_ways (Holds b) (observations b)
           (All-append Both (map on_wire (range_with_len 0 W)) (on_outputs false ∷ on_outputs true ∷ [])
           (all_counted Both on_wire 0 W (λ w _ u. h.probes w (omega arith)))
@@ -61,7 +61,7 @@ module _ (b : Whole) where
   pub hold_rules : All (Holds b) (stations b) → Accepted b
   hold_rules h = record {
     sizes = (h.0, h.1.0);
-    recombination = λ c l. counted_all (Holds b) output 0 m rest.0 c (omega arith) (omega arith);
+    recombination = λ x y k hx hy hk c l. counted_all (Holds b) output 0 m rest.0 c (omega arith) (omega arith) x y k hx hy hk;
     probes = λ w l. counted_all Both on_wire 0 W seen.0 w (omega arith) (omega arith);
     bundles = bundles;
   }

@@ -1,3 +1,4 @@
+pub mod Examples
 pub mod Rules
 pub mod Stations
 pub mod Theorems

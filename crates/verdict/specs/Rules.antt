@@ -32,40 +32,24 @@ settled_at b x y masks w = slice_index_or (settled (circuit_of b) (interleave x 
 abbrev pub Small : Whole → Type 0
 Small b = (wire_count (circuit_of b) ≤ 512) × (mask_count (circuit_of b) ≤ 8)
 
--- output c recombines: for all shares and masks its two wires XOR to that output of the table at the XOR of the shares
-abbrev pub RecombinesAt : Whole → ℕ → Type 0
-RecombinesAt b c = (x y masks : List Bool) → length x ≡ b.table.n → length y ≡ b.table.n → length masks ≡ mask_count (circuit_of b)
+-- recombination: for all shares and masks, the two wires of each output XOR to that output of the table at the XOR of the shares
+abbrev pub Recombines : Whole → Type 0
+Recombines b = (x y masks : List Bool) → length x ≡ b.table.n → length y ≡ b.table.n → length masks ≡ mask_count (circuit_of b)
+    → (c : ℕ) → c < b.table.m
     → xor (settled_at b x y masks (output_wire b false c)) (settled_at b x y masks (output_wire b true c)) ≡ output_at b.table c (number (xors x y))
 
--- what is observed: by a probe on a wire, or on all outputs of one domain together
-pub data Observation : Type 0 where
-  on_wire : ℕ → Observation
-  on_outputs : Bool → Observation
+-- a set of at most 64 wires
+abbrev pub Narrow : Whole → Wires → Type 0
+Narrow b S = size (wire_count (circuit_of b)) S ≤ 64
 
-abbrev pub observed : Whole → Observation → Wires
-observed b (on_wire w) = seen (circuit_of b) w
-observed b (on_outputs d) = bundle b d
-
--- at most 64 wires are seen
-abbrev pub Narrow : Whole → Observation → Type 0
-Narrow b o = size (wire_count (circuit_of b)) (observed b o) ≤ 64
-
--- what a probe sees is clean in domain 0 or in domain 1; a bundle is clean in its own domain
-abbrev pub Isolated : Whole → Observation → Type 0
-Isolated b (on_wire w) = Clean (circuit_of b) (seen (circuit_of b) w) false ⊎ Clean (circuit_of b) (seen (circuit_of b) w) true
-Isolated b (on_outputs d) = Clean (circuit_of b) (bundle b d) d
-
--- recombination: of every output
-abbrev pub Recombines : Whole → Type 0
-Recombines b = (c : ℕ) → c < b.table.m → RecombinesAt b c
-
--- probes: on every wire, shares, MASKs and idle cells too
+-- probes: what a probe on a wire sees is narrow, and clean in domain 0 or in domain 1, for every wire, shares, MASKs and idle cells too
 abbrev pub ProbesClean : Whole → Type 0
-ProbesClean b = (w : ℕ) → w < wire_count (circuit_of b) → Narrow b (on_wire w) × Isolated b (on_wire w)
+ProbesClean b = (w : ℕ) → w < wire_count (circuit_of b)
+    → Narrow b (seen (circuit_of b) w) × (Clean (circuit_of b) (seen (circuit_of b) w) false ⊎ Clean (circuit_of b) (seen (circuit_of b) w) true)
 
--- bundles: of both domains
+-- bundles: bundle d is narrow, and clean in domain d
 abbrev pub BundlesClean : Whole → Type 0
-BundlesClean b = (d : Bool) → Narrow b (on_outputs d) × Isolated b (on_outputs d)
+BundlesClean b = (d : Bool) → Narrow b (bundle b d) × Clean (circuit_of b) (bundle b d) d
 
 pub record Accepted (b : Whole) : Type 0 where
   pub sizes : Small b

@@ -4,11 +4,11 @@ use Rattle.std.specs.Bool.{beq}
 use Rattle.fault.specs.declared.NetlistFault.{NetlistFault}
 use Rattle.netlist.specs.Circuit.{wire_count, mask_count, seen, number}
 use Rattle.isolation.specs.Patterns.{xor, xors, size}
-use Rattle.isolation.specs.Tests.{every, tests_clean}
+use Rattle.isolation.proofs.Tests.{every, tests_clean}
 use Rattle.block.specs.Blocks.{Whole, output_at}
 use Rattle.verdict.specs.declared.Acceptance.{Acceptance}
-use Rattle.verdict.specs.Rules.{circuit_of, output_wire, bundle, settled_at, Observation, on_wire, on_outputs, observed, latency}
-use Rattle.verdict.specs.Stations.{Station, wires, masks, output, breadth, isolation, fault_at, stations}
+use Rattle.verdict.specs.Rules.{circuit_of, output_wire, bundle, settled_at, latency}
+use Rattle.verdict.specs.Stations.{Observation, on_wire, on_outputs, observed, Station, wires, masks, output, breadth, isolation, fault_at, stations}
 
 -- output c recombines, tried with all shares and masks
 abbrev pub recombines : Whole → ℕ → Bool

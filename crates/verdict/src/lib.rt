@@ -1,4 +1,8 @@
 // The rules that a block is judged by, and the verdict.
+#![tactic(auto)]
+
+ghost use Rattle.std.specs.Prelude.{◌≡◌, length};
+ghost use Rattle.verdict.specs.Examples.{examples, VerdictsAsListed};
 ghost use Rattle.verdict.specs.Theorems.{AcceptsByRules, RefusesByRules, TellsNinthMask};
 
 // What is told of a block that meets all rules: how many wires and MASK cells it has, and its latency.
@@ -16,4 +20,12 @@ pub fn verdict_follows_rules() -> u8
     ensures ninth { TellsNinthMask }
 {
     0
+}
+
+// How many worked examples there are, each with the verdict that is listed.
+pub fn worked_examples() -> usize
+    ensures number { result ≡ length examples }
+    ensures verdicts { VerdictsAsListed }
+{
+    8
 }

@@ -1,21 +1,21 @@
 // Making a GHPC block, and its answers.
-ghost use Rattle.std.specs.Prelude.{◌≡◌, ◌+◌, ◌*◌, ◌<◌, Some, Ok};
+ghost use Rattle.std.specs.Prelude.{◌≡◌, ◌+◌, ◌*◌, ◌<◌, Some};
+ghost use Rattle.netlist.specs.Circuit.{wire_count, mask_count};
 ghost use Rattle.netlist.specs.Nets.{nth, cell_at};
 ghost use Rattle.block.specs.Blocks.{net_part};
 ghost use Rattle.block.specs.Tables.{tabled};
-ghost use Rattle.verdict.specs.Verdict.{verdict};
-ghost use Rattle.construction.specs.Gates.{argument_count, cell_gates};
-ghost use Rattle.construction.specs.Ghpc.{breadth, product_cells, ghpc_of};
-ghost use Rattle.construction.specs.Theorems.{ghpc_size};
+ghost use Rattle.verdict.specs.Rules.{circuit_of, Accepted, latency};
+ghost use Rattle.ghpc.specs.Gates.{argument_count, cell_gates};
+ghost use Rattle.ghpc.specs.Ghpc.{breadth, product_cells, ghpc_of};
 ghost use Rattle.ghpc.specs.GhpcBlocks.{ghpc_block, ghpc_net, ghpc_net_lawful, ghpc_block_lawful};
 
 use crate::gates::{arguments, gate, join_cell, look, selector_cell, shifted};
 use crate::ghpc::Ghpc;
+use crate::report::Sizes;
 use block::blocks::Block;
 use block::table::TruthTable;
 use netlist::cell::{Cell, Kind};
 use netlist::netlist::Netlist;
-use verdict::Acceptance;
 
 // The cells of output `c` if the shares of domain 1 were `i`: the look-up, masked, held, selected, and held again.
 fn product_cell(table: &TruthTable, c: usize, i: usize, place: usize) -> Cell
@@ -66,12 +66,14 @@ impl Ghpc {
         Ghpc { table }
     }
 
-    // The verdict on this block, which is acceptance whatever its table, with how many wires and masks it has and its latency.
-    pub fn report(&self) -> Acceptance
-        ensures accepted { verdict (ghpc_block self.now) ≡ Ok result }
-        ensures counts { result ≡ ghpc_size (ghpc_block self.now).table }
+    // How large the block is; it is accepted, whatever its table.
+    pub fn report(&self) -> Sizes
+        ensures wires { result.wires ≡ wire_count (circuit_of (ghpc_block self.now)) }
+        ensures masks { result.masks ≡ mask_count (circuit_of (ghpc_block self.now)) }
+        ensures latency { result.latency ≡ latency (ghpc_block self.now) }
+        ensures accepted { Accepted (ghpc_block self.now) }
     {
-        Acceptance {
+        Sizes {
             wires: self.wires(),
             masks: self.table.outputs(),
             latency: 2,

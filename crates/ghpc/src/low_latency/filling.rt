@@ -1,23 +1,22 @@
 // Filling a GHPC_LL block, and its answers.
-ghost use Rattle.std.specs.Prelude.{◌≡◌, ◌+◌, ◌*◌, ◌<◌, Some, Ok};
+ghost use Rattle.std.specs.Prelude.{◌≡◌, ◌+◌, ◌*◌, ◌<◌, Some};
+ghost use Rattle.netlist.specs.Circuit.{wire_count, mask_count};
 ghost use Rattle.netlist.specs.Nets.{nth, cell_at};
 ghost use Rattle.block.specs.Blocks.{net_part};
 ghost use Rattle.block.specs.Tables.{tabled, identity_table};
-ghost use Rattle.verdict.specs.Verdict.{verdict};
-ghost use Rattle.construction.specs.Gates.{argument_count, cell_gates};
-ghost use Rattle.construction.specs.Limits.{mask_answer};
-ghost use Rattle.construction.specs.LowLatency.{breadth, product_cells, low_latency_of};
-ghost use Rattle.construction.specs.Theorems.{low_latency_size};
-ghost use Rattle.ghpc.specs.LowLatencyBlocks.{low_latency_block, low_latency_net, low_latency_net_lawful, low_latency_block_lawful, Filled};
+ghost use Rattle.verdict.specs.Rules.{circuit_of, Accepted, latency};
+ghost use Rattle.ghpc.specs.Gates.{argument_count, cell_gates};
+ghost use Rattle.ghpc.specs.LowLatency.{breadth, product_cells, low_latency_of};
+ghost use Rattle.ghpc.specs.LowLatencyBlocks.{low_latency_block, low_latency_net, low_latency_net_lawful, low_latency_block_lawful, mask_answer, Filled};
 
 use crate::gates::{arguments, gate, join_cell, look, selector_cell, shifted};
 use crate::low_latency::GhpcLl;
+use crate::report::Sizes;
 use block::blocks::Block;
 use block::table::TruthTable;
 use fault::NetlistFault;
 use netlist::cell::{Cell, Kind};
 use netlist::netlist::Netlist;
-use verdict::Acceptance;
 
 const MOST_MASKS: usize = 8;
 
@@ -85,12 +84,14 @@ impl GhpcLl {
         Ok(())
     }
 
-    // The verdict on this block, which is acceptance whatever its table, with how many wires and masks it has and its latency.
-    pub fn report(&self) -> Acceptance
-        ensures accepted { verdict (low_latency_block self.now) ≡ Ok result }
-        ensures counts { result ≡ low_latency_size (low_latency_block self.now).table }
+    // How large the block is; it is accepted, whatever its table.
+    pub fn report(&self) -> Sizes
+        ensures wires { result.wires ≡ wire_count (circuit_of (low_latency_block self.now)) }
+        ensures masks { result.masks ≡ mask_count (circuit_of (low_latency_block self.now)) }
+        ensures latency { result.latency ≡ latency (low_latency_block self.now) }
+        ensures accepted { Accepted (low_latency_block self.now) }
     {
-        Acceptance {
+        Sizes {
             wires: self.wires(),
             masks: self.table.outputs() * arguments(&self.table),
             latency: 1,

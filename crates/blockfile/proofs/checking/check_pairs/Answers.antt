@@ -6,18 +6,18 @@ use Rattle.blockfile.proofs.checking.check_pairs.Goals as goal
 pub loop-c-init : goal.loop-c-init
 loop-c-init c = pairs_start c.args.bytes.now c.args.at c.args.wires c.args.m
 
-pub returns-in-err-check-values : goal.returns-in-err-check-values
-returns-in-err-check-values c =
-    let p = err_from_is_err_and c.from-residual.result c.from-residual.ensures.1 in
+pub returns-in_err-check_values : goal.returns-in_err-check_values
+returns-in_err-check_values c =
+    let p = err_from_is_err_and c.from_residual.result c.from_residual.ensures.1 in
     rw (p.1, p.2)
     (pair_stops c.args.bytes.now c.args.at c.args.wires c.args.m c.loop-c.c c.from.result c.from-in-loop-c.result _ (omega arith)
-    (c.from.ensures ∙ c.pair.ensures) (c.from-in-loop-c.ensures ∙ c.pair-in-loop-c.ensures) c.in-err-check-values.ensures
+    (c.from.ensures ∙ c.pair.ensures) (c.from-in-loop-c.ensures ∙ c.pair-in-loop-c.ensures) c.in_err-check_values.ensures
     ∙ c.loop-c.invariant)
 
 pub loop-c-preserved : goal.loop-c-preserved
 loop-c-preserved c =
     pair_goes c.args.bytes.now c.args.at c.args.wires c.args.m c.loop-c.c c.from.result c.from-in-loop-c.result _ (omega arith)
-    (c.from.ensures ∙ c.pair.ensures) (c.from-in-loop-c.ensures ∙ c.pair-in-loop-c.ensures) c.in-ok-check-values.ensures
+    (c.from.ensures ∙ c.pair.ensures) (c.from-in-loop-c.ensures ∙ c.pair-in-loop-c.ensures) c.in_ok-check_values.ensures
     ∙ c.loop-c.invariant
 
 pub returns : goal.returns

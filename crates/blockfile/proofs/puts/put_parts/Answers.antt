@@ -10,15 +10,15 @@ returns c =
     let at = c.args.at in
     let x = c.args.x in
     let room : at ≤ length out = omega arith in
-    let k0 = c.kind-number.result ∷ [] in
+    let k0 = c.kind_number.result ∷ [] in
     let k1 = k0 ++ two x.table in
     let k2 = k1 ++ two x.a in
     let k3 = k2 ++ two x.b in
     let k4 = k3 ++ two x.c in
-    let p0 = put_one at c.kind-number.result out (omega arith) in
-    let p1 = put_more at (at + 1) k0 (two x.table) out _ _ room refl p0 c.put-pair.ensures in
-    let p2 = put_more at (at + 3) k1 (two x.a) out _ _ room refl p1 c.put-pair-2.ensures in
-    let p3 = put_more at (at + 5) k2 (two x.b) out _ _ room refl p2 c.put-pair-3.ensures in
-    let p4 = put_more at (at + 7) k3 (two x.c) out _ _ room refl p3 c.put-pair-4.ensures in
-    put_more at (at + 9) k4 (two x.d) out _ _ room refl p4 c.put-pair-5.ensures
-    ∙ ap (λ k. put_at at (k ∷ (two x.table ++ (two x.a ++ (two x.b ++ (two x.c ++ two x.d))))) out) c.kind-number.ensures
+    let p0 = put_one at c.kind_number.result out (omega arith) in
+    let p1 = put_more at (at + 1) k0 (two x.table) out _ _ room refl p0 c.put_pair.ensures in
+    let p2 = put_more at (at + 3) k1 (two x.a) out _ _ room refl p1 c.put_pair-2.ensures in
+    let p3 = put_more at (at + 5) k2 (two x.b) out _ _ room refl p2 c.put_pair-3.ensures in
+    let p4 = put_more at (at + 7) k3 (two x.c) out _ _ room refl p3 c.put_pair-4.ensures in
+    put_more at (at + 9) k4 (two x.d) out _ _ room refl p4 c.put_pair-5.ensures
+    ∙ ap (λ k. put_at at (k ∷ (two x.table ++ (two x.a ++ (two x.b ++ (two x.c ++ two x.d))))) out) c.kind_number.ensures

@@ -15,7 +15,7 @@ loop-k-preserved g c =
     let out = c.loop-k.out in
     let xs = (g.B.Block.block c.args.source.now).cells in
     put_item cell_item 14 (λ _. refl) at k xs no_cell c.args.out.now out _ (omega arith) (omega arith) c.loop-k.invariant
-    (cell_put (at + 14 * k) c.cell-of-x.result (get_or xs k no_cell) out _ c.cell-of-x.ensures c.put-cell.ensures)
+    (cell_put (at + 14 * k) c.cell_of-x.result (get_or xs k no_cell) out _ c.cell_of-x.ensures c.put_cell.ensures)
 
 pub returns : goal.returns
 returns g c =

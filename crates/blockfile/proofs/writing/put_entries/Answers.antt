@@ -13,7 +13,7 @@ loop-k-preserved g c =
     let k = c.loop-k.k in
     let out = c.loop-k.out in
     let es = (g.B.Block.block c.args.source.now).table.entries in
-    put_item entry_item 1 (λ _. refl) at k es 0 c.args.out.now out _ (omega arith) (omega arith) c.loop-k.invariant (entry_put at k c.entry-of.result (get_or es k 0) out (omega arith) c.entry-of.ensures)
+    put_item entry_item 1 (λ _. refl) at k es 0 c.args.out.now out _ (omega arith) (omega arith) c.loop-k.invariant (entry_put at k c.entry_of.result (get_or es k 0) out (omega arith) c.entry_of.ensures)
 
 pub returns : goal.returns
 returns g c =

@@ -14,7 +14,7 @@ loop-c-preserved g c =
     let out = c.loop-c.out in
     let ps = (g.B.Block.block c.args.source.now).outputs in
     put_item pair_item 4 (λ _. refl) at k ps (0, 0) c.args.out.now out _ (omega arith) (omega arith) c.loop-c.invariant
-    (pair_put (at + 4 * k) c.output-of-zeroth.result (get_or ps k (0, 0)) out _ _ (omega arith) c.output-of-zeroth.ensures c.put-pair.ensures c.put-pair-in-loop-c.ensures)
+    (pair_put (at + 4 * k) c.output_of-zeroth.result (get_or ps k (0, 0)) out _ _ (omega arith) c.output_of-zeroth.ensures c.put_pair.ensures c.put_pair-in-loop-c.ensures)
 
 pub returns : goal.returns
 returns g c =

@@ -1,10 +1,10 @@
 use Rattle.std.proofs.Common.{◌≡◌, ◌≤◌, get_or, ap, ◌∙◌, arith}
 use Rattle.block.specs.Tables.{tabled, tabled_lawful}
 use Rattle.isolation.specs.Patterns.{share_wire}
-use Rattle.construction.specs.Gates.{each, look_kind, domain_shares}
-use Rattle.construction.proofs.Looks.{look_made, look_1, look_2, look_3, look_4}
+use Rattle.ghpc.specs.Gates.{each, look_kind, domain_shares}
+use Rattle.ghpc.proofs.Looks.{look_made, look_1, look_2, look_3, look_4}
 use Rattle.ghpc.proofs.gates.look.Goals as goal
-use Rattle.ghpc.proofs.gates.look.Goals.{in-1, in-2, in-3, in-default}
+use Rattle.ghpc.proofs.gates.look.Goals.{in-1, in-2, in-3, in_default}
 
 pub returns : goal.returns
 returns c =
@@ -18,7 +18,7 @@ returns c =
       | in-1 w ↦ w.kind-is ∙ look_1 n w.in-1.is
       | in-2 w ↦ w.kind-is ∙ look_2 n w.in-2.is
       | in-3 w ↦ w.kind-is ∙ look_3 n w.in-3.is
-      | in-default w ↦ w.kind-is ∙ look_4 n (omega (arith, w.in-default))
+      | in_default w ↦ w.kind-is ∙ look_4 n (omega (arith, w.in_default))
     ] in
     look_made c.match-n.kind (look_kind t.n) c.args.bits (domain_shares t d) c.share.result c.share-2.result c.share-3.result c.share-4.result
     (kind ∙ ap look_kind e)

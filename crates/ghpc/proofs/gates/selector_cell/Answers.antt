@@ -3,12 +3,12 @@ use Rattle.std.proofs.lemmas.Nat.{one_shl}
 use Rattle.netlist.specs.declared.cell.Cell.{Cell}
 use Rattle.netlist.specs.Nets.{nth}
 use Rattle.block.specs.Tables.{tabled, tabled_lawful}
-use Rattle.construction.specs.Gates.{argument_count, look_kind, cell_of, domain_shares, cell_gates}
-use Rattle.construction.proofs.TableNumbers.{table_one}
+use Rattle.ghpc.specs.Gates.{argument_count, look_kind, cell_of, domain_shares, cell_gates}
+use Rattle.ghpc.proofs.TableNumbers.{table_one}
 use Rattle.ghpc.proofs.gates.selector_cell.Goals as goal
 
-pub overflow-shl-i : goal.overflow-shl-i
-overflow-shl-i c =
+pub overflow_shl-i : goal.overflow_shl-i
+overflow_shl-i c =
     let t = tabled c.args.table.now in
     let most : 2 ^ t.n ≤ 2 ^ 4 = pow_mono (tabled_lawful c.args.table.now).few_inputs in
     omega (arith, c.requires.within)

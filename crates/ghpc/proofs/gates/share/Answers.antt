@@ -1,5 +1,5 @@
 use Rattle.std.proofs.Common.{arith}
-use Rattle.construction.proofs.Looks.{share_past, share_1, share_0}
+use Rattle.ghpc.proofs.Looks.{share_past, share_1, share_0}
 use Rattle.ghpc.proofs.gates.share.Goals as goal
 
 pub returns-then-i-n : goal.returns-then-i-n

@@ -4,15 +4,15 @@ use Rattle.std.proofs.lemmas.Nat.{shl_whole}
 use Rattle.netlist.specs.Circuit.{number, bit_of}
 use Rattle.block.specs.Blocks.{output_at}
 use Rattle.block.specs.Tables.{tabled}
-use Rattle.construction.specs.Gates.{each}
-use Rattle.construction.proofs.Looks.{bit_byte, bits_more}
+use Rattle.ghpc.specs.Gates.{each}
+use Rattle.ghpc.proofs.Looks.{bit_byte, bits_more}
 use Rattle.ghpc.proofs.gates.shifted.Goals as goal
 
 one_bit : (c : goal.After-from) → c.from.result ≡ bit_of (output_at (tabled c.args.table.now) c.args.c (bit_xor c.loop-a.a c.args.i))
 one_bit c = c.from.ensures ∙ bit_byte c.value.result ∙ ap bit_of c.value.ensures
 
-pub overflow-add-bits : goal.overflow-add-bits
-overflow-add-bits c =
+pub overflow_add-bits : goal.overflow_add-bits
+overflow_add-bits c =
     let f : ℕ → Bool = λ a. output_at (tabled c.args.table.now) c.args.c (bit_xor a c.args.i) in
     record { fits = (bits_more c.loop-a.a f c.loop-a.bits c.from.result (omega arith) c.loop-a.invariant (one_bit c)).1 }
 

@@ -11,14 +11,14 @@ use Rattle.query.proofs.counting.count.Goals as goal
 pub carry-requires : goal.carry-requires
 carry-requires g c =
     let n = g.N.Netlist.net c.args.netlist.now in
-    omega (arith, wires_circuit n, room_known (wire_count (circuit n)) (length c.args.out.now) c.in-ok-check-room.ensures)
+    omega (arith, wires_circuit n, room_known (wire_count (circuit n)) (length c.args.out.now) c.in_ok-check_room.ensures)
 
 pub returns : goal.returns
 returns g c =
     let n = g.N.Netlist.net c.args.netlist.now in
     let size = (g.N.Netlist.lawful c.args.netlist.now).size in
     record {
-      answer = c.in-ok-check-room.ensures;
+      answer = c.in_ok-check_room.ensures;
       after =
           rewritten_by (net_wires n) (carried_from count_ops (circuit n) []) (register_counts (circuit n)) c.args.out.now _ c.carry.ensures
           (counts_from (circuit n) (omega (arith, wires_circuit n))) (wires_circuit n ∙ sym (length_register_counts (circuit n)));

@@ -6,19 +6,19 @@ use Rattle.query.proofs.probing.mark_seen.Goals as goal
 pub loop-w-init : goal.loop-w-init
 loop-w-init g c = (back_start (g.N.Netlist.net c.args.netlist.now) c.wires-w.result _ (omega arith), omega arith)
 
-pub hand-on-requires : goal.hand-on-requires
-hand-on-requires g c =
+pub hand_on-requires : goal.hand_on-requires
+hand_on-requires g c =
     let n = g.N.Netlist.net c.args.netlist.now in
     let fit = (g.N.Netlist.lawful c.args.netlist.now).fit in
     record {
       within = omega (arith, length-set c.clear.new.marks c.args.wire 1);
-      fits = fits_at n.inputs n.cells (c.loop-w.w - 1) c.cell-of.result fit (omega arith) (omega arith) c.cell-of.ensures;
+      fits = fits_at n.inputs n.cells (c.loop-w.w - 1) c.cell_of.result fit (omega arith) (omega arith) c.cell_of.ensures;
     }
 
 pub loop-w-preserved : goal.loop-w-preserved
 loop-w-preserved g c = (
-  back_again (g.N.Netlist.net c.args.netlist.now) c.loop-w.w (c.loop-w.w - 1) _ c.loop-w.marks _ c.cell-of.result (omega arith) (omega arith) (omega arith)
-      c.cell-of.ensures c.hand-on.ensures c.loop-w.invariant.0,
+  back_again (g.N.Netlist.net c.args.netlist.now) c.loop-w.w (c.loop-w.w - 1) _ c.loop-w.marks _ c.cell_of.result (omega arith) (omega arith) (omega arith)
+      c.cell_of.ensures c.hand_on.ensures c.loop-w.invariant.0,
   omega arith,
 )
 

@@ -4,17 +4,17 @@ use Rattle.traverse.specs.Carrying.{carried_from}
 use Rattle.traverse.proofs.Walks.{shares_placed, rest_kept}
 use Rattle.traverse.proofs.walk.carry.Goals as goal
 
-pub carry-cells-requires : goal.carry-cells-requires
-carry-cells-requires g c =
+pub carry_cells-requires : goal.carry_cells-requires
+carry_cells-requires g c =
     let p = 2 * (g.N.Netlist.net c.args.netlist.now).inputs in
     record {
       room = omega arith;
-      shares = shares_placed (2 * c.inputs.result) p g.V.WireValue.ops.none c.args.given.now c.args.out.now _ (omega arith) c.carry-shares.ensures;
+      shares = shares_placed (2 * c.inputs.result) p g.V.WireValue.ops.none c.args.given.now c.args.out.now _ (omega arith) c.carry_shares.ensures;
     }
 
 pub returns : goal.returns
 returns g c =
     let n = g.N.Netlist.net c.args.netlist.now in
-    c.carry-cells.ensures
+    c.carry_cells.ensures
     ∙ ap (λ ys. carried_from g.V.WireValue.ops (circuit n) c.args.given.now ++ ys)
-    (rest_kept (2 * c.inputs.result) (2 * n.inputs) (net_wires n) g.V.WireValue.ops.none c.args.given.now c.args.out.now _ (omega arith) (omega arith) c.carry-shares.ensures)
+    (rest_kept (2 * c.inputs.result) (2 * n.inputs) (net_wires n) g.V.WireValue.ops.none c.args.given.now c.args.out.now _ (omega arith) (omega arith) c.carry_shares.ensures)

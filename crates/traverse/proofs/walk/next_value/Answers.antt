@@ -11,7 +11,7 @@ pub drive-requires : goal.drive-requires
 drive-requires g c =
     let n = g.N.Netlist.net c.args.netlist.now in
     let fit = (g.N.Netlist.lawful c.args.netlist.now).fit in
-    fits_below n.inputs n.cells c.args.wire c.args.out.now c.cell-of-x.result fit c.requires.past-shares c.requires.within (omega arith) c.cell-of-x.ensures
+    fits_below n.inputs n.cells c.args.wire c.args.out.now c.cell_of-x.result fit c.requires.past_shares c.requires.within (omega arith) c.cell_of-x.ensures
 
 pub returns : goal.returns
 returns g c =
@@ -19,8 +19,8 @@ returns g c =
     let vs : (i : ℕ) → _ = λ i. take i c.args.out.now in
     record {
       value =
-          c.drive.ensures ∙ ap (λ i. carried A (driver c.cell-of-x.result) c.args.k (vs i)) (sub-zero c.args.wire)
-          ∙ ap (λ (x : Cell). carried A (driver x) c.args.k (vs c.args.wire)) c.cell-of-x.ensures;
-      fresh = c.fresh-after.ensures.fresh ∙ ap (λ (x : Cell). more_fresh (driver x) c.args.k) c.cell-of-x.ensures;
-      bound = c.fresh-after.ensures.bound;
+          c.drive.ensures ∙ ap (λ i. carried A (driver c.cell_of-x.result) c.args.k (vs i)) (sub-zero c.args.wire)
+          ∙ ap (λ (x : Cell). carried A (driver x) c.args.k (vs c.args.wire)) c.cell_of-x.ensures;
+      fresh = c.fresh_after.ensures.fresh ∙ ap (λ (x : Cell). more_fresh (driver x) c.args.k) c.cell_of-x.ensures;
+      bound = c.fresh_after.ensures.bound;
     }

@@ -1,8 +1,8 @@
 use Rattle.blockfile.proofs.Accepted.{accepted_lawful}
 use Rattle.blockfile.proofs.file_view.FileView.over.Goals as goal
 
-pub invariant-of-result : goal.invariant-of-result
-invariant-of-result c =
+pub invariant_of-result : goal.invariant_of-result
+invariant_of-result c =
     let law = accepted_lawful c.args.bytes.now c.requires in
     let t = law.table in
     (c.requires, ((t.some_inputs, t.few_inputs, t.some_outputs, t.few_outputs), ((t.whole, t.small), ((law.net.size, law.net.fit), ((law.complete, law.zeroth, law.first), tt)))))

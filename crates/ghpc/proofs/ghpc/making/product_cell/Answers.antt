@@ -1,6 +1,6 @@
 use Rattle.std.proofs.Common.{◌+◌, ◌*◌, ◌<◌, arith}
 use Rattle.block.specs.Tables.{tabled, tabled_lawful}
-use Rattle.construction.proofs.GhpcAnswers.{entry_small, most_arguments}
+use Rattle.ghpc.proofs.GhpcAnswers.{entry_small, most_arguments}
 use Rattle.ghpc.proofs.ghpc.making.product_cell.Goals as goal
 use Rattle.ghpc.proofs.ghpc.making.product_cell.Goals.{After-outputs}
 
@@ -19,5 +19,5 @@ gate-requires-in-2 c = let k = low (goal.at.gate-requires-in-2 c).After-outputs 
 pub gate-requires-in-3 : goal.gate-requires-in-3
 gate-requires-in-3 c = let k = low (goal.at.gate-requires-in-3 c).After-outputs in (omega (arith, most_arguments (tabled c.args.table.now) (tabled_lawful c.args.table.now)), omega arith)
 
-pub gate-requires-in-default : goal.gate-requires-in-default
-gate-requires-in-default c = let k = low (goal.at.gate-requires-in-default c).After-outputs in (omega arith, omega arith)
+pub gate-requires-in_default : goal.gate-requires-in_default
+gate-requires-in_default c = let k = low (goal.at.gate-requires-in_default c).After-outputs in (omega arith, omega arith)

@@ -1,8 +1,8 @@
 use Rattle.std.proofs.Common.{◌≡◌, ℕ, ◌+◌, ◌-◌, ◌*◌, ◌/◌, ◌%◌, ◌<◌, ◌≤◌, Some, refl, ap, ◌∙◌, arith}
 use Rattle.block.specs.Blocks.{Table, LawfulTable}
 use Rattle.block.specs.Tables.{tabled, tabled_lawful}
-use Rattle.construction.specs.LowLatency.{start}
-use Rattle.construction.proofs.LowAnswers.{few_after, low_product, placed, product_made, join_1_made, join_0_made, last_made}
+use Rattle.ghpc.specs.LowLatency.{start}
+use Rattle.ghpc.proofs.LowAnswers.{few_after, low_product, placed, product_made, join_1_made, join_0_made, last_made}
 use Rattle.ghpc.proofs.low_latency.filling.output_cell.Goals as goal
 use Rattle.ghpc.proofs.low_latency.filling.output_cell.Goals.{After-outputs}
 
@@ -31,23 +31,23 @@ module _ (c : After-outputs) where
       placed t few c.inputs.result c.outputs.result c.arguments-all.result c.inputs.ensures c.outputs.ensures c.arguments-all.ensures.count
       c.args.k q r refl refl c.requires
 
-pub product-cell-requires : goal.product-cell-requires
-product-cell-requires c =
-    let p = at (goal.at.product-cell-requires c).After-outputs in
+pub product_cell-requires : goal.product_cell-requires
+product_cell-requires c =
+    let p = at (goal.at.product_cell-requires c).After-outputs in
     let n = c.arguments-all.ensures.count in
     record { output = p.0; argument = omega (arith, c.if-place-all.true); place = omega arith }
 
-pub join-cell-requires : goal.join-cell-requires
-join-cell-requires c =
-    let s = (goal.at.join-cell-requires c).After-outputs in
+pub join_cell-requires : goal.join_cell-requires
+join_cell-requires c =
+    let s = (goal.at.join_cell-requires c).After-outputs in
     let k = low s in
     let n = (few s).few_inputs in
     let m = masks s in
     (omega arith, (omega arith, omega (arith, c.if-place-all.false, c.if-place-all-2.true)))
 
-pub join-cell-requires-then-place-all-3 : goal.join-cell-requires-then-place-all-3
-join-cell-requires-then-place-all-3 c =
-    let s = (goal.at.join-cell-requires-then-place-all-3 c).After-outputs in
+pub join_cell-requires-then-place-all-3 : goal.join_cell-requires-then-place-all-3
+join_cell-requires-then-place-all-3 c =
+    let s = (goal.at.join_cell-requires-then-place-all-3 c).After-outputs in
     let k = low s in
     let n = (few s).few_inputs in
     let m = masks s in
@@ -64,21 +64,21 @@ gate-requires c =
 pub returns-then-place-all : goal.returns-then-place-all
 returns-then-place-all c =
     let s = (goal.at.returns-then-place-all c).After-outputs in
-    c.product-cell.ensures
+    c.product_cell.ensures
     ∙ product_made (t s) (few s) c.inputs.result c.outputs.result c.arguments-all.result c.inputs.ensures c.outputs.ensures c.arguments-all.ensures.count c.args.k (q s) (r s) refl refl c.requires
     c.if-place-all.true
 
 pub returns-then-place-all-2 : goal.returns-then-place-all-2
 returns-then-place-all-2 c =
     let s = (goal.at.returns-then-place-all-2 c).After-outputs in
-    ap Some c.join-cell.ensures
+    ap Some c.join_cell.ensures
     ∙ join_1_made (t s) (few s) c.inputs.result c.outputs.result c.arguments-all.result c.inputs.ensures c.outputs.ensures c.arguments-all.ensures.count c.args.k (q s) (r s) refl refl c.requires
     _ _ (r s - 5 * c.arguments-all.result) refl refl (omega (arith, c.if-place-all.false)) (omega (arith, c.if-place-all.false, c.if-place-all-2.true))
 
 pub returns-then-place-all-3 : goal.returns-then-place-all-3
 returns-then-place-all-3 c =
     let s = (goal.at.returns-then-place-all-3 c).After-outputs in
-    ap Some c.join-cell-then-place-all-3.ensures
+    ap Some c.join_cell-then-place-all-3.ensures
     ∙ join_0_made (t s) (few s) c.inputs.result c.outputs.result c.arguments-all.result c.inputs.ensures c.outputs.ensures c.arguments-all.ensures.count c.args.k (q s) (r s) refl refl c.requires
     _ _ (r s - (6 * c.arguments-all.result - 1)) refl refl (omega (arith, c.if-place-all-2.false)) (omega (arith, c.if-place-all-2.false, c.if-place-all-3.true))
 

@@ -1,7 +1,7 @@
 use Rattle.std.proofs.Common.{arith}
 use Rattle.block.specs.Tables.{tabled, tabled_lawful}
-use Rattle.construction.proofs.GhpcAnswers.{most_arguments}
-use Rattle.construction.proofs.LowAnswers.{Low, product_low}
+use Rattle.ghpc.proofs.GhpcAnswers.{most_arguments}
+use Rattle.ghpc.proofs.LowAnswers.{Low, product_low}
 use Rattle.ghpc.proofs.low_latency.filling.product_cell.Goals as goal
 use Rattle.ghpc.proofs.low_latency.filling.product_cell.Goals.{After-outputs}
 
@@ -20,5 +20,5 @@ gate-requires-in-2 c = let k = low (goal.at.gate-requires-in-2 c).After-outputs 
 pub gate-requires-in-3 : goal.gate-requires-in-3
 gate-requires-in-3 c = let k = low (goal.at.gate-requires-in-3 c).After-outputs in (omega arith, omega arith)
 
-pub gate-requires-in-default : goal.gate-requires-in-default
-gate-requires-in-default c = let k = low (goal.at.gate-requires-in-default c).After-outputs in (omega arith, omega arith)
+pub gate-requires-in_default : goal.gate-requires-in_default
+gate-requires-in_default c = let k = low (goal.at.gate-requires-in_default c).After-outputs in (omega arith, omega arith)

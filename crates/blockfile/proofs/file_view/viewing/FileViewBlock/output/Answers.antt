@@ -15,22 +15,22 @@ pub pair-requires : goal.pair-requires
 pair-requires c =
     let v = c.args.self.now in
     let l = accepted_layout v.bytes.now v.accepted in
-    omega (arith, l.long, c.outputs.ensures.value, c.body.ensures, c.cell-count.ensures)
+    omega (arith, l.long, c.outputs.ensures.value, c.body.ensures, c.cell_count.ensures)
 
 pub pair-requires-2 : goal.pair-requires-2
 pair-requires-2 c =
     let v = c.args.self.now in
     let l = accepted_layout v.bytes.now v.accepted in
-    omega (arith, l.long, c.outputs.ensures.value, c.body.ensures, c.cell-count.ensures)
+    omega (arith, l.long, c.outputs.ensures.value, c.body.ensures, c.cell_count.ensures)
 
 pub returns : goal.returns
 returns c =
     let v = c.args.self.now in
     let l = accepted_layout v.bytes.now v.accepted in
-    let place = c.body.result + 14 * c.cell-count.result + 3 + 4 * c.args.c in
+    let place = c.body.result + 14 * c.cell_count.result + 3 + 4 * c.args.c in
     record {
       value =
           ap (λ x. Some (x, c.pair-2.result)) c.pair.ensures ∙ ap (λ y. Some (pair_at v.bytes.now place, y)) c.pair-2.ensures
-          ∙ pair_there v.bytes.now (block_in v.bytes.now) c.args.c place l (omega (arith, c.outputs.ensures.value)) v.outputs.0 (omega (arith, c.body.ensures, c.cell-count.ensures));
+          ∙ pair_there v.bytes.now (block_in v.bytes.now) c.args.c place l (omega (arith, c.outputs.ensures.value)) v.outputs.0 (omega (arith, c.body.ensures, c.cell_count.ensures));
       part = refl;
     }

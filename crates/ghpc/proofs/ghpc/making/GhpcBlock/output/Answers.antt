@@ -1,7 +1,7 @@
 use Rattle.std.proofs.Common.{sym, refl, arith}
 use Rattle.block.specs.Tables.{tabled, tabled_lawful}
-use Rattle.construction.proofs.GhpcAnswers.{output_made}
-use Rattle.construction.proofs.GhpcByNumber.{ghpc_by_wire}
+use Rattle.ghpc.proofs.GhpcAnswers.{output_made}
+use Rattle.ghpc.proofs.GhpcByNumber.{ghpc_by_wire}
 use Rattle.ghpc.proofs.ghpc.making.GhpcBlock.output.Goals as goal
 
 pub returns-then-c-m : goal.returns-then-c-m

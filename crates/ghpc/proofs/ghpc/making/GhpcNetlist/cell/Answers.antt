@@ -3,14 +3,14 @@ use Rattle.netlist.specs.Nets.{nth, cell_at}
 use Rattle.netlist.proofs.Places.{cell_at_share, cell_at_past}
 use Rattle.block.specs.Blocks.{Table, net_part}
 use Rattle.block.specs.Tables.{tabled}
-use Rattle.construction.specs.Gates.{cell_gates}
-use Rattle.construction.specs.Ghpc.{ghpc_of}
-use Rattle.construction.proofs.GhpcPlaces.{length_cells}
-use Rattle.construction.proofs.GhpcByNumber.{ghpc_by_wire}
+use Rattle.ghpc.specs.Gates.{cell_gates}
+use Rattle.ghpc.specs.Ghpc.{ghpc_of}
+use Rattle.ghpc.proofs.GhpcPlaces.{length_cells}
+use Rattle.ghpc.proofs.GhpcByNumber.{ghpc_by_wire}
 use Rattle.ghpc.proofs.ghpc.making.GhpcNetlist.cell.Goals as goal
 
-pub output-cell-requires : goal.output-cell-requires
-output-cell-requires c =
+pub output_cell-requires : goal.output_cell-requires
+output_cell-requires c =
     let t = tabled c.args.self.now.table in
     let n = length_cells t (cell_gates t) in
     let a = c.arguments.ensures.count in
@@ -37,7 +37,7 @@ returns-then-wire-first c =
     let k = c.args.wire - first in
     let same : first ≡ 2 * t.n + t.m = omega arith in
     let a = c.arguments.ensures.count in
-    c.selector-cell.ensures
+    c.selector_cell.ensures
     ∙ ap (λ v. nth ((cell_gates t).look true (λ a. eqb a (k / 2)) ∷ (cell_gates t).reg (v + 2 * (k / 2)) ∷ []) (k % 2)) same
     ∙ sym ((ghpc_by_wire t).selectors c.args.wire k (omega (arith, c.if-wire-selectors.false)) (omega (arith, c.if-wire-selectors.false, c.if-wire-first.true)))
 
@@ -45,4 +45,4 @@ pub returns-else-wire-first : goal.returns-else-wire-first
 returns-else-wire-first c =
     let t = tabled c.args.self.now.table in
     let a = c.arguments.ensures.count in
-    c.output-cell.ensures ∙ ap (cell_at (net_part (ghpc_of t))) (omega (arith, c.if-wire-first.false))
+    c.output_cell.ensures ∙ ap (cell_at (net_part (ghpc_of t))) (omega (arith, c.if-wire-first.false))

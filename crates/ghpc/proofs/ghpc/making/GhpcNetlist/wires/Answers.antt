@@ -1,5 +1,5 @@
 use Rattle.block.specs.Tables.{tabled, tabled_lawful}
-use Rattle.construction.proofs.GhpcAnswers.{wires_made}
+use Rattle.ghpc.proofs.GhpcAnswers.{wires_made}
 use Rattle.ghpc.proofs.ghpc.making.GhpcNetlist.wires.Goals as goal
 
 pub returns : goal.returns

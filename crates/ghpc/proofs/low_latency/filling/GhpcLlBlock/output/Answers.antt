@@ -1,7 +1,7 @@
 use Rattle.std.proofs.Common.{sym, refl, arith}
 use Rattle.block.specs.Tables.{tabled, tabled_lawful}
-use Rattle.construction.proofs.LowAnswers.{output_made}
-use Rattle.construction.proofs.LowByNumber.{low_latency_by_wire}
+use Rattle.ghpc.proofs.LowAnswers.{output_made}
+use Rattle.ghpc.proofs.LowByNumber.{low_latency_by_wire}
 use Rattle.ghpc.proofs.low_latency.filling.GhpcLlBlock.output.Goals as goal
 
 pub returns-then-c-m : goal.returns-then-c-m

@@ -3,22 +3,22 @@ use Rattle.netlist.specs.Nets.{nth, cell_at}
 use Rattle.netlist.proofs.Places.{cell_at_share, cell_at_past}
 use Rattle.block.specs.Blocks.{Table, net_part}
 use Rattle.block.specs.Tables.{tabled, tabled_lawful}
-use Rattle.construction.specs.Gates.{argument_count, cell_gates}
-use Rattle.construction.specs.LowLatency.{low_latency_of}
-use Rattle.construction.proofs.LowPlaces.{length_cells}
-use Rattle.construction.proofs.LowByNumber.{low_latency_by_wire}
-use Rattle.construction.proofs.LowAnswers.{low_product}
+use Rattle.ghpc.specs.Gates.{argument_count, cell_gates}
+use Rattle.ghpc.specs.LowLatency.{low_latency_of}
+use Rattle.ghpc.proofs.LowPlaces.{length_cells}
+use Rattle.ghpc.proofs.LowByNumber.{low_latency_by_wire}
+use Rattle.ghpc.proofs.LowAnswers.{low_product}
 use Rattle.ghpc.proofs.low_latency.filling.GhpcLlNetlist.cell.Goals as goal
 
-pub selector-cell-requires : goal.selector-cell-requires
-selector-cell-requires c =
+pub selector_cell-requires : goal.selector_cell-requires
+selector_cell-requires c =
     let x = c.args.self.now.table in
     let a = c.arguments-all.ensures.count in
     let p = low_product (tabled x) (tabled_lawful x) c.outputs.result c.arguments-all.result a (omega arith) in
     record { within = omega (arith, c.if-wire-selectors.false, c.if-wire-first.true); low = omega (arith, (tabled_lawful x).few_inputs) }
 
-pub output-cell-requires : goal.output-cell-requires
-output-cell-requires c =
+pub output_cell-requires : goal.output_cell-requires
+output_cell-requires c =
     let t = tabled c.args.self.now.table in
     let n = length_cells t (cell_gates t) in
     let a = c.arguments-all.ensures.count in
@@ -48,7 +48,7 @@ returns-then-wire-first c =
     let first = 2 * c.inputs-masks.result + c.outputs.result * c.arguments-all.result in
     let k = c.args.wire - first in
     let same : first ≡ 2 * t.n + t.m * argument_count t = omega arith in
-    c.selector-cell.ensures
+    c.selector_cell.ensures
     ∙ ap (λ v. nth ((cell_gates t).look true (λ a. eqb a (k / 2)) ∷ (cell_gates t).reg (v + 2 * (k / 2)) ∷ []) (k % 2)) same
     ∙ sym ((low_latency_by_wire t).selectors c.args.wire k (omega (arith, c.if-wire-selectors.false)) (omega (arith, c.if-wire-selectors.false, c.if-wire-first.true)))
 
@@ -57,4 +57,4 @@ returns-else-wire-first c =
     let t = tabled c.args.self.now.table in
     let a = c.arguments-all.ensures.count in
     let p : c.outputs.result * c.arguments-all.result ≡ t.m * argument_count t = ap₂ (λ x y. x * y) c.outputs.ensures a in
-    c.output-cell.ensures ∙ ap (cell_at (net_part (low_latency_of t))) (omega (arith, c.if-wire-first.false))
+    c.output_cell.ensures ∙ ap (cell_at (net_part (low_latency_of t))) (omega (arith, c.if-wire-first.false))

@@ -1,5 +1,5 @@
 use Rattle.block.specs.Tables.{tabled, tabled_lawful}
-use Rattle.construction.proofs.LowAnswers.{wires_made}
+use Rattle.ghpc.proofs.LowAnswers.{wires_made}
 use Rattle.ghpc.proofs.low_latency.filling.GhpcLlNetlist.wires.Goals as goal
 
 pub returns : goal.returns
