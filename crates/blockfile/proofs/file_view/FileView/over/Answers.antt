@@ -5,4 +5,10 @@ pub invariant_of-result : goal.invariant_of-result
 invariant_of-result c =
     let law = accepted_lawful c.args.bytes.now c.requires in
     let t = law.table in
-    (c.requires, ((t.some_inputs, t.few_inputs, t.some_outputs, t.few_outputs), ((t.whole, t.small), ((law.net.size, law.net.fit), ((law.complete, law.zeroth, law.first), tt)))))
+    record {
+      accepted = c.requires;
+      sizes = (t.some_inputs, t.few_inputs, t.some_outputs, t.few_outputs);
+      entries = (t.whole, t.small);
+      cells = (law.net.size, law.net.fit);
+      outputs = (law.complete, law.zeroth, law.first);
+    }
