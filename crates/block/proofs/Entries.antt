@@ -1,11 +1,10 @@
 -- Steps of testing and copying a table's entries, and what reading them gives.
-use Rattle.std.proofs.Common.{◌≡◌, ℕ, zero, suc, ◌+◌, ◌-◌, ◌*◌, ◌/◌, ◌%◌, ◌^◌, ◌<◌, ◌≤◌, Bool, true, false, cond, eqb, ltb, ◌⊎◌, List, [], ◌∷◌, ◌++◌, length, get_or, take, drop, set, replicate, Ok, Err, Result, sym, refl, ap, ◌∙◌, inl, inr, ⊎_elim, add-one, arith, length-append, length-take, drop-cons, get_or-take, take_at, pow_mono, ltb-true, le-ltb, lt-ltb, eq-eqb, le-leb}
+use Rattle.std.proofs.Common.{◌≡◌, ℕ, zero, suc, ◌+◌, ◌-◌, ◌%◌, ◌^◌, ◌<◌, ◌≤◌, Bool, true, false, cond, eqb, ltb, ◌⊎◌, List, [], ◌∷◌, ◌++◌, length, get_or, take, drop, set, replicate, Ok, Err, sym, refl, ap, ◌∙◌, inl, inr, ⊎_elim, add-one, arith, length-append, length-take, drop-cons, get_or-take, pow_mono, ltb-true, le-ltb, lt-ltb, eq-eqb, le-leb}
 use native.Mathlib.Nat.{zero-div, div-eq_of_lt}
 use lib.ListN.{get_or-eq_default, length-replicate}
-use Rattle.std.proofs.lemmas.List.{drop_all, get_or_append_left, get_or-append_right, get_or-replicate}
+use Rattle.std.proofs.lemmas.List.{drop_all, get_or_append_left}
 use Rattle.std.proofs.lemmas.Bool.{cases_lt}
-use Rattle.fault.specs.declared.NetlistFault.{NetlistFault}
-use Rattle.fault.specs.declared.NetlistFault.TheVariants.{TableSize, TableEntry}
+use Rattle.fault.specs.declared.NetlistFault.TheVariants.{TableEntry}
 use Rattle.netlist.specs.Circuit.{bit}
 use Rattle.block.specs.Tables.{entries_answer, sizes_fit}
 

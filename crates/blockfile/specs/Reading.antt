@@ -1,12 +1,12 @@
 -- Reading a file front to back: the block, or the first fault. At each field come the cut header, the tag, the length, the cut payload, the values.
-use Rattle.std.specs.Prelude.{ℕ, zero, suc, ◌+◌, ◌*◌, ◌^◌, Bool, cond, ◌&&◌, List, [], ◌∷◌, ◌++◌, map, length, take, drop, Ok, Err, Result, ◌==◌, nat_le, nat_lt, slice_index, slice_index_or}
+use Rattle.std.specs.Prelude.{ℕ, zero, suc, ◌+◌, ◌*◌, ◌^◌, Bool, cond, ◌&&◌, List, [], ◌∷◌, length, take, drop, Ok, Err, Result, ◌==◌, nat_le, nat_lt, slice_index, slice_index_or}
 use Rattle.fault.specs.declared.FieldFault.{FieldFault}
 use Rattle.fault.specs.declared.FieldFault.TheVariants.{Cut, Tag, Length, Value, Trailing}
 use Rattle.netlist.specs.declared.cell.Kind.{Kind}
 use Rattle.netlist.specs.declared.cell.Kind.TheVariants.{Mask, Not, And, Xor, Reg, Look1, Look2, Look3, Look4}
 use Rattle.netlist.specs.declared.cell.Cell.{Cell}
 use Rattle.netlist.specs.Cells.{arity, table_limit, operand_limit}
-use Rattle.block.specs.Blocks.{Table, Whole}
+use Rattle.block.specs.Blocks.{Whole}
 
 -- one thing after another: the first fault is the answer
 abbrev pub and_then : {A B : Type 0} → Result A FieldFault → (A → Result B FieldFault) → Result B FieldFault

@@ -1,5 +1,5 @@
 -- What the answers of a GHPC block come to, by the numbers that they are worked out from.
-use Rattle.std.proofs.Common.{◌≡◌, ℕ, zero, suc, pred, ◌+◌, ◌-◌, ◌*◌, ◌/◌, ◌%◌, ◌^◌, ◌<◌, ◌≤◌, [], ◌∷◌, Some, None, sym, refl, ap, ◌∙◌, ap₂, add-mul, mul-le-mul, one-mul, arith, pow_mono}
+use Rattle.std.proofs.Common.{◌≡◌, ℕ, zero, suc, pred, ◌+◌, ◌-◌, ◌*◌, ◌/◌, ◌%◌, ◌^◌, ◌<◌, ◌≤◌, [], ◌∷◌, Some, sym, refl, ap, ◌∙◌, ap₂, add-mul, mul-le-mul, one-mul, arith, pow_mono}
 use Rattle.netlist.specs.declared.cell.Kind.TheVariants.{Xor, Reg}
 use Rattle.netlist.specs.Nets.{nth, cell_at, net_wires}
 use Rattle.block.specs.Blocks.{Table, LawfulTable, net_part}

@@ -1,5 +1,5 @@
 -- What the answers of a GHPC_LL block come to, by the numbers that they are worked out from.
-use Rattle.std.proofs.Common.{◌≡◌, ℕ, zero, suc, pred, ◌+◌, ◌-◌, ◌*◌, ◌/◌, ◌%◌, ◌^◌, ◌<◌, ◌≤◌, [], ◌∷◌, Some, None, Ok, Err, sym, refl, ap, ◌∙◌, ap₂, add-mul, mul-le-mul, one-mul, arith, le-leb}
+use Rattle.std.proofs.Common.{◌≡◌, ℕ, zero, suc, pred, ◌+◌, ◌-◌, ◌*◌, ◌/◌, ◌%◌, ◌<◌, ◌≤◌, [], ◌∷◌, Some, Ok, Err, sym, refl, ap, ◌∙◌, ap₂, add-mul, mul-le-mul, one-mul, arith, le-leb}
 use borrow.Author.Tests.{lt-leb}
 use Rattle.fault.specs.declared.NetlistFault.TheVariants.{MaskLimit}
 use Rattle.netlist.specs.declared.cell.Kind.TheVariants.{Xor, Reg}

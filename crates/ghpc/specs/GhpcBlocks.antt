@@ -1,9 +1,8 @@
 -- What a GHPC block in memory means, and its bounds.
-use Rattle.std.specs.Prelude.{ℕ}
 use Rattle.std.proofs.Common.{arith}
 use Rattle.std.proofs.lemmas.List.FromFn.{length-map-range_with_len}
 use Rattle.netlist.specs.Nets.{Net, Lawful}
-use Rattle.block.specs.Blocks.{Whole, LawfulTable, LawfulBlock, net_part}
+use Rattle.block.specs.Blocks.{Whole, LawfulBlock, net_part}
 use Rattle.block.specs.Tables.{tabled, tabled_lawful}
 use Rattle.ghpc.specs.declared.ghpc.Ghpc.{Ghpc}
 use Rattle.ghpc.specs.Ghpc.{outputs_of, ghpc_of}

@@ -1,11 +1,11 @@
 -- What a GHPC_LL block in memory means, its bounds, and what filling one answers.
-use Rattle.std.specs.Prelude.{◌≡◌, ℕ, ◌*◌, cond, Ok, Err, Result, nat_le}
+use Rattle.std.specs.Prelude.{◌≡◌, ◌*◌, cond, Ok, Err, Result, nat_le}
 use Rattle.std.proofs.Common.{arith}
 use Rattle.std.proofs.lemmas.List.FromFn.{length-map-range_with_len}
 use Rattle.fault.specs.declared.NetlistFault.{NetlistFault}
 use Rattle.fault.specs.declared.NetlistFault.TheVariants.{MaskLimit}
 use Rattle.netlist.specs.Nets.{Net, Lawful}
-use Rattle.block.specs.Blocks.{Table, Whole, LawfulTable, LawfulBlock, net_part}
+use Rattle.block.specs.Blocks.{Table, Whole, LawfulBlock, net_part}
 use Rattle.block.specs.Tables.{tabled, tabled_lawful}
 use Rattle.ghpc.specs.declared.low_latency.GhpcLl.{GhpcLl}
 use Rattle.ghpc.specs.Gates.{argument_count}

@@ -1,6 +1,6 @@
 -- Reading one wire: what it carries is what its driver makes of what its operands carry.
 use Rattle.std.proofs.Common.{◌≡◌, ℕ, zero, suc, ◌+◌, ◌<◌, List, [], ◌∷◌, ◌++◌, map, length, get_or, take, sym, refl, ap, ◌∙◌, add-zero, add-suc, suc-add, arith, length-append}
-use mathlib.Core.Option.{none, some}
+use mathlib.Core.Option.{some}
 use lib.ListN.{get_elem?}
 use lib.Seq.{get_or-append_seam}
 use Rattle.netlist.specs.Circuit.{Driver, fresh, stored, looked, Carrier, carried, carry, more_fresh, fresh_after}

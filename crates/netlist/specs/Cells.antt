@@ -1,5 +1,5 @@
 -- The nine kinds of cell, what drives a wire through each, and which cells may drive a wire.
-use Rattle.std.specs.Prelude.{ℕ, ◌<◌, cond, List, [], ◌∷◌, nat_lt}
+use Rattle.std.specs.Prelude.{ℕ, ◌<◌, cond, [], ◌∷◌, nat_lt}
 use Rattle.netlist.specs.declared.cell.Kind.{Kind}
 use Rattle.netlist.specs.declared.cell.Kind.TheVariants.{Mask, Not, And, Xor, Reg, Look1, Look2, Look3, Look4}
 use Rattle.netlist.specs.declared.cell.Cell.{Cell}

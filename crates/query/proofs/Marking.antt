@@ -1,13 +1,12 @@
 -- Marking back from a wire gives what a probe on it sees.
-use Rattle.std.proofs.Common.{◌≡◌, ℕ, zero, suc, ◌+◌, ◌*◌, ◌<◌, ◌≤◌, Bool, true, false, cond, ◌||◌, eqb, ◌⊎◌, List, [], ◌∷◌, map, length, get_or, set, replicate, sym, refl, ap, ◌∙◌, subst, inl, inr, add-zero, zero-add, arith, length-set, eq-eqb, eqb-true}
+use Rattle.std.proofs.Common.{◌≡◌, ℕ, zero, suc, ◌+◌, ◌<◌, ◌≤◌, Bool, true, false, cond, eqb, ◌⊎◌, List, [], ◌∷◌, map, length, get_or, set, replicate, sym, refl, ap, ◌∙◌, subst, inl, inr, add-zero, zero-add, arith, length-set, eq-eqb, eqb-true}
 use mathlib.Core.Option.{some}
 use native.Mathlib.Decide.{dec_lt, ℕ_discrete}
 use borrow.Author.Tests.{both_ways}
 use lib.ListN.{get_elem?, length-replicate}
-use Rattle.std.specs.List.{range_with_len}
-use Rattle.std.proofs.lemmas.List.{get_or-set_same, get_or-set_other, get_or-replicate}
+use Rattle.std.proofs.lemmas.List.{get_or-set_same, get_or-set_other}
 use Rattle.std.proofs.lemmas.List.FromFn.{fill_by_all}
-use Rattle.netlist.specs.Circuit.{Driver, fresh, stored, looked, Circuit, share_count, wire_count, carry, probes, seen, union, Wires, no_wire, alone, alone_from, bit_of}
+use Rattle.netlist.specs.Circuit.{Driver, fresh, stored, looked, Circuit, share_count, wire_count, probes, seen, union, Wires, alone, alone_from, bit_of}
 use Rattle.isolation.proofs.Reading.{AllBelow, at_input, at_fresh, at_stored, at_looked}
 use Rattle.isolation.proofs.Determined.{or_cases, or_left, or_right, length_alone_from, get_or_alone_from}
 use Rattle.query.specs.Answers.{probe_bytes}

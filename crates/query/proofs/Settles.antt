@@ -1,12 +1,12 @@
 -- What the traversal gives for bits, lanes and counts is what the definitions say.
-use Rattle.std.proofs.Common.{◌≡◌, ℕ, zero, suc, ◌+◌, ◌*◌, ◌<◌, ◌≤◌, min, max, Bool, true, false, eqb, List, [], ◌∷◌, ◌++◌, map, length, get_or, take, drop, replicate, sym, refl, ap, ◌∙◌, add-zero, zero-add, arith, length-append}
+use Rattle.std.proofs.Common.{◌≡◌, ℕ, zero, suc, ◌+◌, ◌<◌, ◌≤◌, min, Bool, true, false, List, [], ◌∷◌, ◌++◌, map, length, get_or, take, drop, replicate, sym, refl, ap, ◌∙◌, add-zero, zero-add, arith, length-append}
 use native.Mathlib.Decide.{ℕ_discrete}
 use lib.ListN.{length-map, length-replicate}
 use Rattle.std.proofs.lemmas.List.{get_or-drop, take-map, map-id, length-take-le, take_at, drop_at}
-use Rattle.netlist.specs.Circuit.{Driver, fresh, stored, looked, Circuit, share_count, wire_count, mask_count, Carrier, carried, carry, more_fresh, bits, settled, counts, largest, register_counts, bit, bit_of, number}
+use Rattle.netlist.specs.Circuit.{Driver, fresh, stored, looked, Circuit, share_count, wire_count, carried, carry, more_fresh, bits, settled, counts, largest, register_counts, bit, bit_of, number}
 use Rattle.isolation.proofs.Lists.{get_or_end, get_or_not_end}
 use Rattle.isolation.proofs.Carries.{length_carry, length_settled, Respects, carry_mapped}
-use Rattle.value.specs.Values.{Ops, lane, lanes, lane_ops, count_ops}
+use Rattle.value.specs.Values.{Ops, lane, lane_ops, count_ops}
 use Rattle.traverse.specs.Carrying.{given_values, filled, carried_from}
 use Rattle.value.proofs.LaneLaws.{lanes_one, lane_lanes, zero_lane}
 use Rattle.traverse.proofs.Walks.{length_filled}

@@ -1,5 +1,5 @@
 -- The verdict on a list of stations: accepted if the rules hold at all, and else the fault of the first at which they do not.
-use Rattle.std.proofs.Common.{◌≡◌, Bool, true, false, ◌⊎◌, List, [], ◌∷◌, ◌++◌, Ok, Err, Result, sym, refl, ap, ◌∙◌, inl, inr}
+use Rattle.std.proofs.Common.{◌≡◌, true, false, ◌⊎◌, List, [], ◌∷◌, ◌++◌, Ok, Err, refl, ap, ◌∙◌, inl, inr}
 use Rattle.std.specs.List.{AllByRecursion as All}
 use Rattle.std.proofs.lemmas.Bool.{true≢false, both_ways, cond-true, cond-false, cases_Bool}
 use Rattle.fault.specs.declared.NetlistFault.{NetlistFault}

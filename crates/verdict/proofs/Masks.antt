@@ -1,5 +1,5 @@
 -- The wire of a MASK by how many others come before it.
-use Rattle.std.proofs.Common.{◌≡◌, ℕ, zero, suc, ◌+◌, ◌<◌, List, [], ◌∷◌, length, get_or, take, refl, ◌∙◌, arith}
+use Rattle.std.proofs.Common.{◌≡◌, ℕ, zero, suc, ◌+◌, ◌<◌, List, [], ◌∷◌, length, get_or, take, refl, arith}
 use Rattle.netlist.specs.Circuit.{Driver, fresh, stored, looked, share_count, fresh_after}
 use Rattle.verdict.specs.Rules.{circuit_of}
 use Rattle.verdict.specs.Stations.{mask_wire}

@@ -1,5 +1,5 @@
 -- The same verdict with every setting of shares and masks settled once.
-use Rattle.std.proofs.Common.{◌≡◌, ℕ, Bool, true, false, cond, ◌&&◌, ◌||◌, eqb, List, [], ◌∷◌, replicate, Ok, Err, Result, sym, refl, ap, ◌∙◌}
+use Rattle.std.proofs.Common.{◌≡◌, ℕ, Bool, true, false, cond, ◌&&◌, ◌||◌, eqb, List, [], ◌∷◌, replicate, Ok, Err, Result, refl, ap, ◌∙◌}
 use Rattle.fault.specs.declared.NetlistFault.{NetlistFault}
 use Rattle.netlist.specs.Circuit.{Circuit, Wires, mask_count, settled, seen}
 use Rattle.isolation.specs.Patterns.{pattern, one_if, same, shares, count}
@@ -7,8 +7,8 @@ use Rattle.isolation.proofs.Tests.{every, covered, tests_clean}
 use Rattle.block.specs.Blocks.{Whole}
 use Rattle.verdict.specs.declared.Acceptance.{Acceptance}
 use Rattle.verdict.specs.Rules.{circuit_of, bundle}
-use Rattle.verdict.specs.Stations.{Observation, on_wire, on_outputs, Station, wires, masks, output, breadth, isolation, fault_at, stations}
-use Rattle.verdict.specs.Verdict.{isolated, passes, acceptance, judged, verdict}
+use Rattle.verdict.specs.Stations.{on_wire, on_outputs, Station, wires, masks, output, breadth, isolation, fault_at, stations}
+use Rattle.verdict.specs.Verdict.{passes, acceptance, judged, verdict}
 use Rattle.verdict.proofs.Trees.{Tree, grown, all, total, first, mapped, grown_same, all_grown, total_grown, first_grown, mapped_grown, every_same}
 
 -- patterns, or settlings, by the masks

@@ -1,5 +1,5 @@
 -- What a function gives for all lists of k bits, computed once and kept.
-use Rattle.std.proofs.Common.{◌≡◌, ℕ, zero, suc, ◌+◌, Bool, true, false, ◌&&◌, List, [], ◌∷◌, replicate, refl, ap, ◌∙◌}
+use Rattle.std.proofs.Common.{◌≡◌, ℕ, zero, suc, ◌+◌, Bool, true, false, ◌&&◌, List, [], ◌∷◌, replicate, refl, ap}
 use Rattle.isolation.specs.Sums.{sum}
 use Rattle.isolation.proofs.Tests.{every}
 

@@ -1,6 +1,6 @@
 -- Worked examples: blocks, and what is claimed of each.
 use Rattle.std.specs.Prelude.{◌≡◌, ℕ, Bool, true, List, [], ◌∷◌, length, replicate, Ok, Err, Result, slice_index}
-use Rattle.std.specs.List.{range_with_len, AllByRecursion as All}
+use Rattle.std.specs.List.{range_with_len}
 use Rattle.fault.specs.declared.NetlistFault.{NetlistFault}
 use Rattle.fault.specs.declared.NetlistFault.TheVariants.{BlockWires, BlockMasks, Recombination, Breadth, Leak}
 use Rattle.netlist.specs.declared.cell.Kind.TheVariants.{Mask, Xor, Reg}

@@ -1,4 +1,4 @@
-use Rattle.std.proofs.Common.{◌≡◌, Ok, Err, sym, ap, ◌∙◌}
+use Rattle.std.proofs.Common.{Ok, Err, sym, ap, ◌∙◌}
 use Rattle.verdict.specs.Stations.{stations}
 use Rattle.verdict.specs.Theorems.{AcceptsByRules, RefusesByRules}
 use Rattle.verdict.proofs.Judging.{accepts, refuses, accepted_all, refused_first}

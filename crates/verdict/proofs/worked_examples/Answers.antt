@@ -1,4 +1,4 @@
-use Rattle.std.proofs.Common.{◌≡◌, refl}
+use Rattle.std.proofs.Common.{refl}
 use Rattle.verdict.specs.Examples.{VerdictsAsListed}
 use Rattle.verdict.proofs.Examples.{broad_verdict, and_verdict}
 use Rattle.verdict.proofs.worked_examples.Goals as goal

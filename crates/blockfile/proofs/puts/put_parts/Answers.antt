@@ -1,5 +1,5 @@
 use Rattle.std.proofs.Common.{◌+◌, ◌≤◌, [], ◌∷◌, ◌++◌, length, refl, ap, ◌∙◌, arith}
-use Rattle.blockfile.specs.Format.{two, kind_number}
+use Rattle.blockfile.specs.Format.{two}
 use Rattle.blockfile.specs.Writing.{put_at}
 use Rattle.blockfile.proofs.Placing.{put_one, put_more}
 use Rattle.blockfile.proofs.puts.put_parts.Goals as goal

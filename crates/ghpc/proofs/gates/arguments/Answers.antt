@@ -1,4 +1,4 @@
-use Rattle.std.proofs.Common.{◌≡◌, ◌^◌, ◌≤◌, ap, ◌∙◌, arith, pow_mono}
+use Rattle.std.proofs.Common.{◌^◌, ◌≤◌, ap, ◌∙◌, arith, pow_mono}
 use Rattle.std.proofs.lemmas.Nat.{one_shl}
 use Rattle.block.specs.Tables.{tabled_lawful}
 use Rattle.ghpc.proofs.gates.arguments.Goals as goal

@@ -1,4 +1,4 @@
-use Rattle.std.proofs.Common.{sym, refl, ◌∙◌, arith}
+use Rattle.std.proofs.Common.{sym, ◌∙◌, arith}
 use Rattle.query.proofs.Tests.{bits_here, bits_next, bits_end}
 use Rattle.query.proofs.checks.check_bits.Goals as goal
 

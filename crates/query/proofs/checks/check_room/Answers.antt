@@ -1,9 +1,8 @@
-use Rattle.std.proofs.Common.{◌≡◌, Ok, Err, ap, ◌∙◌, arith}
-use Rattle.fault.specs.declared.NetlistFault.TheVariants.{Memory}
+use Rattle.std.proofs.Common.{◌≡◌, ap, ◌∙◌}
 use Rattle.netlist.specs.Circuit.{wire_count}
 use Rattle.netlist.specs.Nets.{circuit}
 use Rattle.netlist.proofs.Places.{wires_circuit}
-use Rattle.query.specs.Answers.{room_answer, Answer}
+use Rattle.query.specs.Answers.{room_answer}
 use Rattle.query.proofs.Tests.{room_short, room_enough}
 use Rattle.query.proofs.checks.check_room.Goals as goal
 

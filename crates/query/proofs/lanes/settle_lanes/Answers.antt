@@ -1,9 +1,7 @@
-use Rattle.std.proofs.Common.{◌≡◌, ℕ, ◌≤◌, length, sym, ap, ◌∙◌, subst, arith}
+use Rattle.std.proofs.Common.{◌≤◌, length, arith}
 use Rattle.netlist.specs.Circuit.{share_count, wire_count}
 use Rattle.netlist.specs.Nets.{circuit, net_wires}
 use Rattle.netlist.proofs.Places.{wires_circuit}
-use Rattle.value.specs.Values.{lane_ops}
-use Rattle.traverse.specs.Carrying.{carried_from}
 use Rattle.query.proofs.Tests.{room_known, given_known, passed}
 use Rattle.query.proofs.Settles.{lanes_after}
 use Rattle.query.proofs.lanes.settle_lanes.Goals as goal

@@ -1,4 +1,4 @@
-use Rattle.std.proofs.Common.{◌≡◌, ◌≤◌, length, sym, ◌∙◌, arith}
+use Rattle.std.proofs.Common.{◌≤◌, length, sym, ◌∙◌, arith}
 use Rattle.netlist.specs.Circuit.{share_count, wire_count}
 use Rattle.netlist.specs.Nets.{circuit, net_wires}
 use Rattle.netlist.proofs.Places.{wires_circuit}

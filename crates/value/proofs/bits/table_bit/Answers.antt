@@ -1,4 +1,4 @@
-use Rattle.std.proofs.Common.{sym, ◌∙◌}
+use Rattle.std.proofs.Common.{sym}
 use Rattle.value.proofs.LaneLaws.{lane_digit}
 use Rattle.value.proofs.bits.table_bit.Goals as goal
 

@@ -1,4 +1,4 @@
-use Rattle.std.proofs.Common.{sym, ◌∙◌, arith}
+use Rattle.std.proofs.Common.{sym, ◌∙◌}
 use Rattle.value.proofs.LaneLaws.{ones_lane, zero_lane, bit_of_one, bit_of_other}
 use Rattle.value.proofs.lanes.leaf.Goals as goal
 

@@ -1,4 +1,4 @@
-use Rattle.std.proofs.Common.{◌≡◌, ◌^◌, ◌<◌, ◌≤◌, length, take, Some, sym, ap, ◌∙◌, arith, length-take, get_or-take, pow_mono}
+use Rattle.std.proofs.Common.{◌^◌, ◌<◌, ◌≤◌, take, Some, sym, ap, ◌∙◌, arith, length-take, get_or-take, pow_mono}
 use Rattle.netlist.proofs.Places.{nth_get_or, nth_past}
 use Rattle.block.proofs.table.TruthTable.entry.Goals as goal
 

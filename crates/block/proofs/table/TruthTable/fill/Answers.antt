@@ -1,4 +1,4 @@
-use Rattle.std.proofs.Common.{◌≡◌, ℕ, ◌-◌, ◌^◌, ◌<◌, ◌≤◌, cond, List, ◌++◌, length, get_or, take, replicate, Ok, Err, sym, refl, ap, ◌∙◌, arith, take_at}
+use Rattle.std.proofs.Common.{◌≡◌, ℕ, ◌-◌, ◌^◌, ◌<◌, ◌≤◌, cond, ◌++◌, length, get_or, take, replicate, Err, sym, ap, ◌∙◌, arith, take_at}
 use Rattle.fault.specs.declared.NetlistFault.TheVariants.{TableSize}
 use Rattle.block.specs.Tables.{table_of, entries_answer}
 use Rattle.block.proofs.Entries.{entries_below, padded_front, padded_rest, pad_length, sizes_known}

@@ -1,4 +1,4 @@
-use Rattle.std.proofs.Common.{◌≡◌, ◌*◌, cond, sym, refl, ap, ◌∙◌, ap₂, arith}
+use Rattle.std.proofs.Common.{◌≡◌, ◌*◌, refl, ap₂, arith}
 use Rattle.block.specs.Tables.{tabled, tabled_lawful}
 use Rattle.ghpc.specs.Gates.{argument_count}
 use Rattle.ghpc.proofs.LowLawful.{lawful_low_latency}

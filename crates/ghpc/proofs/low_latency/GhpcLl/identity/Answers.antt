@@ -1,6 +1,6 @@
-use Rattle.std.proofs.Common.{◌≡◌, ◌*◌, ◌≤◌, sym, ap, subst, arith}
+use Rattle.std.proofs.Common.{◌≡◌, ◌*◌, ap, arith}
 use Rattle.block.specs.Blocks.{Table}
-use Rattle.block.specs.Tables.{tabled, tabled_lawful, identity_table}
+use Rattle.block.specs.Tables.{tabled, tabled_lawful}
 use Rattle.ghpc.specs.Gates.{argument_count}
 use Rattle.ghpc.specs.LowLatency.{low_latency_of}
 use Rattle.ghpc.proofs.LowLawful.{lawful_low_latency}

@@ -1,6 +1,5 @@
 use Rattle.std.proofs.Common.{arith}
 use Rattle.block.specs.Tables.{tabled, tabled_lawful}
-use Rattle.ghpc.proofs.GhpcAnswers.{most_arguments}
 use Rattle.ghpc.proofs.LowAnswers.{Low, product_low}
 use Rattle.ghpc.proofs.low_latency.filling.product_cell.Goals as goal
 use Rattle.ghpc.proofs.low_latency.filling.product_cell.Goals.{After-outputs}

@@ -1,4 +1,4 @@
-use Rattle.std.proofs.Common.{◌≡◌, ◌≤◌, [], ◌∷◌, arith, take_all}
+use Rattle.std.proofs.Common.{◌≤◌, [], ◌∷◌, arith, take_all}
 use Rattle.value.proofs.counts.U16WireValue.look.Goals as goal
 
 pub returns-in_default : goal.returns-in_default

@@ -1,4 +1,4 @@
-use Rattle.std.proofs.Common.{◌-◌, Some, ap, ◌∙◌, arith}
+use Rattle.std.proofs.Common.{Some, ap, ◌∙◌, arith}
 use Rattle.netlist.proofs.Places.{cell_at_share, cell_at_past}
 use Rattle.blockfile.specs.Viewing.{block_in}
 use Rattle.blockfile.specs.Views.{viewed_net}

@@ -1,7 +1,7 @@
-use Rattle.std.proofs.Common.{◌≡◌, ℕ, ◌+◌, ◌-◌, ◌*◌, ◌/◌, ◌%◌, ◌<◌, ◌≤◌, true, eqb, [], ◌∷◌, Some, sym, refl, ap, ◌∙◌, ap₂, inl, inr, arith}
+use Rattle.std.proofs.Common.{◌≡◌, ◌+◌, ◌-◌, ◌*◌, ◌/◌, ◌%◌, true, eqb, [], ◌∷◌, Some, sym, ap, ◌∙◌, ap₂, inl, inr, arith}
 use Rattle.netlist.specs.Nets.{nth, cell_at}
 use Rattle.netlist.proofs.Places.{cell_at_share, cell_at_past}
-use Rattle.block.specs.Blocks.{Table, net_part}
+use Rattle.block.specs.Blocks.{net_part}
 use Rattle.block.specs.Tables.{tabled, tabled_lawful}
 use Rattle.ghpc.specs.Gates.{argument_count, cell_gates}
 use Rattle.ghpc.specs.LowLatency.{low_latency_of}
