@@ -1,7 +1,7 @@
 -- What a probe on each wire of GHPC sees is narrow and clean in a domain, and so is each bundle in its own.
 use Rattle.std.proofs.Common.{◌≡◌, ℕ, suc, ◌*◌, ◌<◌, ◌≤◌, Bool, true, false, ◌&&◌, eqb, List, [], ◌∷◌, ◌++◌, length, get_or, sym, ap, ◌∙◌, mul-le-mul, arith, length-append}
 use lib.Bits.{bit_xor}
-use Rattle.std.specs.List.{AllByRecursion as All}
+use Rattle.std.specs.List.{AllByRecursion}
 use Rattle.std.proofs.ByRecursion.{All-append}
 use Rattle.netlist.specs.Circuit.{number, Wires, mask_count, seen}
 use Rattle.isolation.specs.Patterns.{xor, xors, share_wire}
@@ -81,7 +81,7 @@ module _ (t : Table) (l : LawfulTable t) where
   Fine d w = Isolated (ghpc_of t) d (seen (circuit_of (ghpc_of t)) w)
 
   terms_restored : (S : Wires) (ws : List ℕ) → S ≡ among ws → length ws ≤ 64
-      → All (Restored (circuit_of (ghpc_of t)) true (λ x y z. makes_up (number x) y z)) ws → Isolated (ghpc_of t) true S
+      → AllByRecursion (Restored (circuit_of (ghpc_of t)) true (λ x y z. makes_up (number x) y z)) ws → Isolated (ghpc_of t) true S
   terms_restored = known_restored (ghpc_of t) true (λ x y z. makes_up (number x) y z) (λ x y z. length_makes_up (number x) y z)
 
   pub fine_share : (d : Bool) (i : ℕ) → i < t.n → Fine d (share_wire d i)

@@ -1,7 +1,7 @@
 -- The equation that each wire of GHPC meets, for whatever wires carry.
 use Rattle.std.proofs.Common.{◌≡◌, ℕ, zero, suc, pred, ◌*◌, ◌<◌, true, false, eqb, List, [], ◌∷◌, map, length, get_or, refl, arith}
 use lib.Bits.{bit_xor}
-use Rattle.std.specs.List.{AllByRecursion as All}
+use Rattle.std.specs.List.{AllByRecursion}
 use Rattle.netlist.specs.Circuit.{Driver, stored, looked, Carrier, carry}
 use Rattle.block.specs.Blocks.{Table, LawfulTable, output_at}
 use Rattle.verdict.specs.Rules.{circuit_of}
@@ -28,7 +28,7 @@ module _ (t : Table) (l : LawfulTable t) {V : Type 0} (A : Carrier V) (inputs : 
   stored_on : (w a : ℕ) → Stands (2 * t.n) ds w (stored a) → a < w → on w ≡ A.store w (on a)
   stored_on = on_stored A (circuit_of (ghpc_of t)).drivers ds (ghpc_drivers t l) inputs (2 * t.n) long
 
-  looked_on : (w table : ℕ) (os : List ℕ) → Stands (2 * t.n) ds w (looked table os) → All (λ o. o < w) os → on w ≡ A.look table (map on os)
+  looked_on : (w table : ℕ) (os : List ℕ) → Stands (2 * t.n) ds w (looked table os) → AllByRecursion (λ o. o < w) os → on w ≡ A.look table (map on os)
   looked_on = on_looked A (circuit_of (ghpc_of t)).drivers ds (ghpc_drivers t l) inputs (2 * t.n) long
 
   pub on_mask : (c : ℕ) → c < t.m → on (mask t c) ≡ A.source (mask t c) c

@@ -1,6 +1,6 @@
 -- The input shares of one domain of a block: what they settle to, what probes on them see, their register counts, and their bounds.
 use Rattle.std.proofs.Common.{◌≡◌, ℕ, ◌*◌, ◌<◌, ◌≤◌, Bool, true, false, List, map, length, get_or, ap, ◌∙◌, arith}
-use Rattle.std.specs.List.{AllByRecursion as All}
+use Rattle.std.specs.List.{AllByRecursion}
 use Rattle.netlist.specs.Circuit.{union, seen, largest, register_counts}
 use Rattle.isolation.specs.Patterns.{share_wire}
 use Rattle.isolation.proofs.Shares.{share_below}
@@ -13,7 +13,7 @@ use Rattle.ghpc.specs.Gates.{each, among, domain_shares}
 use Rattle.ghpc.proofs.Rows.{map_each, length_each, all_each}
 use Rattle.ghpc.proofs.Sets.{union_alone}
 
-pub below_shares : (t : Table) (d : Bool) (w : ℕ) → 2 * t.n ≤ w → All (λ o. o < w) (domain_shares t d)
+pub below_shares : (t : Table) (d : Bool) (w : ℕ) → 2 * t.n ≤ w → AllByRecursion (λ o. o < w) (domain_shares t d)
 below_shares t d w h = all_each (λ o. o < w) t.n (share_wire d) (λ i l. let b = share_below d i t.n l in omega arith)
 
 module _ (b : Whole) where
@@ -37,5 +37,5 @@ module _ (b : Whole) where
         (all_each (λ n. n ≡ 0) b.table.n (λ i. get_or (register_counts (circuit_of b)) (share_wire d i) 0)
         (λ i l. register_count_share (circuit_of b) (share_wire d i) (share_below d i b.table.n l)))
 
-    pub still_shares : All (Still (circuit_of b) d) (domain_shares b.table d)
+    pub still_shares : AllByRecursion (Still (circuit_of b) d) (domain_shares b.table d)
     still_shares = all_each (Still (circuit_of b) d) b.table.n (share_wire d) (λ i h. still_share (circuit_of b) d i h)

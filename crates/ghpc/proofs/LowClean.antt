@@ -1,7 +1,7 @@
 -- What a probe on each wire of GHPC_LL sees is narrow and clean in a domain, and so is each bundle in its own.
 use Rattle.std.proofs.Common.{◌≡◌, ℕ, suc, ◌+◌, ◌*◌, ◌<◌, ◌≤◌, Bool, true, false, List, [], ◌∷◌, ◌++◌, length, sym, refl, ap, ◌∙◌, mul-le-mul, arith, length-append}
 use lib.Bits.{bit_xor}
-use Rattle.std.specs.List.{AllByRecursion as All}
+use Rattle.std.specs.List.{AllByRecursion}
 use Rattle.std.proofs.ByRecursion.{All-append}
 use Rattle.netlist.specs.Circuit.{number, Wires, mask_count, seen}
 use Rattle.isolation.specs.Patterns.{xor, xors, share_wire}
@@ -75,13 +75,13 @@ module _ (t : Table) (l : LawfulTable t) where
   abbrev Fine : Bool → ℕ → Type 0
   Fine d w = Isolated (low_latency_of t) d (seen (circuit_of (low_latency_of t)) w)
 
-  made_up : (S : Wires) (ws : List ℕ) → S ≡ among ws → length ws ≤ 64 → All MadeUp ws → Isolated (low_latency_of t) true S
+  made_up : (S : Wires) (ws : List ℕ) → S ≡ among ws → length ws ≤ 64 → AllByRecursion MadeUp ws → Isolated (low_latency_of t) true S
   made_up = known_restored (low_latency_of t) true makes_up length_makes_up
 
-  restored_factors : (c i : ℕ) → c < t.m → i < argument_count t → All MadeUp (factors_1 t c i)
+  restored_factors : (c i : ℕ) → c < t.m → i < argument_count t → AllByRecursion MadeUp (factors_1 t c i)
   restored_factors c i h b = (restored_selector i b, (restored_held c i h b, tt))
 
-  still_factors : (c i : ℕ) → c < t.m → i < argument_count t → All (Still (circuit_of (low_latency_of t)) true) (factors_0 t c i)
+  still_factors : (c i : ℕ) → c < t.m → i < argument_count t → AllByRecursion (Still (circuit_of (low_latency_of t)) true) (factors_0 t c i)
   still_factors c i h b =
       All-append (Still (circuit_of (low_latency_of t)) true) (domain_shares t true) (mask t c i ∷ []) (still_shares (low_latency_of t) true)
       (still_mask true c i h b, tt)

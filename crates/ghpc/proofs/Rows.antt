@@ -4,7 +4,7 @@ use mathlib.Core.Path.{fun_ext}
 use mathlib.Core.List.{map-map, map-append}
 use mathlib.Core.Option.{none, some}
 use lib.ListN.{get_elem?}
-use Rattle.std.specs.List.{range_with_len, flat_map, AllByRecursion as All}
+use Rattle.std.specs.List.{range_with_len, flat_map, AllByRecursion}
 use Rattle.std.proofs.lemmas.List.{flat_map_more, map_push}
 use Rattle.std.proofs.lemmas.List.FromFn.{length-range_with_len, get_or-range_with_len, length-map-range_with_len, get_or-map-range_with_len}
 use Rattle.std.proofs.ByRecursion.{All-from_get_or, All-append}
@@ -93,20 +93,20 @@ get_or_grid k w f d c i h l =
 
 -- what holds of each
 module _ {A : Type 0} (P : A → Type 0) where
-  pub all_each : (k : ℕ) (f : ℕ → A) → ((i : ℕ) → i < k → P (f i)) → All P (each k f)
+  pub all_each : (k : ℕ) (f : ℕ → A) → ((i : ℕ) → i < k → P (f i)) → AllByRecursion P (each k f)
   all_each k f h = All-from_get_or P (each k f) (f 0) (λ i l. let m : i < k = omega (arith, length_each k f) in subst P (sym (get_or_each k f i (f 0) m)) (h i m))
 
-  all_joined : {X : Type 0} (f : X → List A) (xs : List X) → All (λ x. All P (f x)) xs → All P (flat_map f xs)
+  all_joined : {X : Type 0} (f : X → List A) (xs : List X) → AllByRecursion (λ x. AllByRecursion P (f x)) xs → AllByRecursion P (flat_map f xs)
   all_joined f [] h = tt
   all_joined f (x ∷ xs) h = All-append P (f x) (flat_map f xs) h.0 (all_joined f xs h.1)
 
-pub all_counting : (P : ℕ → Type 0) (k : ℕ) → ((i : ℕ) → i < k → P i) → All P (range_with_len 0 k)
+pub all_counting : (P : ℕ → Type 0) (k : ℕ) → ((i : ℕ) → i < k → P i) → AllByRecursion P (range_with_len 0 k)
 all_counting P k h =
     All-from_get_or P (range_with_len 0 k) 0
     (λ i l. let m : i < k = omega (arith, length-range_with_len 0 k) in subst P (sym (get_or-range_with_len 0 k i 0 m ∙ zero-add i)) (h i m))
 
-pub all_rows : {A : Type 0} (P : A → Type 0) (k : ℕ) (f : ℕ → List A) → ((i : ℕ) → i < k → All P (f i)) → All P (rows k f)
-all_rows P k f h = all_joined P f (range_with_len 0 k) (all_counting (λ i. All P (f i)) k h)
+pub all_rows : {A : Type 0} (P : A → Type 0) (k : ℕ) (f : ℕ → List A) → ((i : ℕ) → i < k → AllByRecursion P (f i)) → AllByRecursion P (rows k f)
+all_rows P k f h = all_joined P f (range_with_len 0 k) (all_counting (λ i. AllByRecursion P (f i)) k h)
 
 -- every place in k rows of w is a place in one of them
 pub row_at : (k w j : ℕ) → 0 < w → j < k * w → (j / w < k) × (j % w < w) × (j / w * w + j % w ≡ j)

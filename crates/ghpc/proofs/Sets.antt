@@ -1,12 +1,12 @@
 -- Unions over wires that are given by a function of the index.
 use Rattle.std.proofs.Common.{◌≡◌, ℕ, ◌<◌, List, [], ◌∷◌, map, refl, ap, ◌∙◌}
-use Rattle.std.specs.List.{range_with_len, AllByRecursion as All}
+use Rattle.std.specs.List.{range_with_len, AllByRecursion}
 use Rattle.netlist.specs.Circuit.{Wires, alone, union}
 use Rattle.isolation.proofs.Sets.{union_concat}
 use Rattle.ghpc.specs.Gates.{each, rows, among}
 use Rattle.ghpc.proofs.Rows.{map_each, all_each, all_counting}
 
-map_alike : {A B : Type 0} (f g : A → B) (xs : List A) → All (λ x. f x ≡ g x) xs → map f xs ≡ map g xs
+map_alike : {A B : Type 0} (f g : A → B) (xs : List A) → AllByRecursion (λ x. f x ≡ g x) xs → map f xs ≡ map g xs
 map_alike f g [] h = refl
 map_alike f g (x ∷ xs) h = let e = h.0 in let r = map_alike f g xs h.1 in cc
 

@@ -1,7 +1,7 @@
 -- Register counts: none on an input share, and the largest of several.
 use Rattle.std.proofs.Common.{◌≡◌, ℕ, ◌<◌, ◌≤◌, max, List, [], ◌∷◌, ◌++◌, length, get_or, replicate, ◌∙◌, arith}
 use lib.ListN.{length-replicate, get_or-replicate}
-use Rattle.std.specs.List.{AllByRecursion as All}
+use Rattle.std.specs.List.{AllByRecursion}
 use Rattle.netlist.specs.Circuit.{Circuit, share_count, largest, counts, register_counts}
 use Rattle.isolation.proofs.Carries.{carry_before}
 
@@ -15,7 +15,7 @@ largest_append [] ys = omega arith
 largest_append (x ∷ xs) ys = let r = largest_append xs ys in omega arith
 
 -- of numbers that are all the same, that one
-pub largest_all : (n : ℕ) (xs : List ℕ) → 1 ≤ length xs → All (λ x. x ≡ n) xs → largest xs ≡ n
+pub largest_all : (n : ℕ) (xs : List ℕ) → 1 ≤ length xs → AllByRecursion (λ x. x ≡ n) xs → largest xs ≡ n
 largest_all n [] l h = absurd (omega arith)
 largest_all n (x ∷ []) l h = omega (arith, h.0)
 largest_all n (x ∷ y ∷ xs) l h = let r = largest_all n (y ∷ xs) (omega arith) h.1 in omega (arith, h.0)

@@ -2,7 +2,7 @@
 use Rattle.std.proofs.Common.{◌≡◌, ℕ, zero, suc, ◌+◌, ◌≤◌, Bool, true, false, ◌||◌, eqb, List, [], ◌∷◌, ◌++◌, map, length, sym, refl, ap, ◌∙◌, subst, ap₂, arith}
 use mathlib.Core.Path.{fun_ext}
 use mathlib.Core.Bool.{or-false, or_assoc}
-use Rattle.std.specs.List.{flat_map as concat, AllByRecursion as All}
+use Rattle.std.specs.List.{flat_map as concat, AllByRecursion}
 use Rattle.std.proofs.lemmas.Bool.{eqb-true, ne_eqb}
 use Rattle.netlist.specs.Circuit.{Wires, no_wire, alone, union}
 use Rattle.isolation.specs.Patterns.{one_if, size}
@@ -22,13 +22,13 @@ pub union_two : (ws us : List ℕ) → union (among ws ∷ among us ∷ []) ≡ 
 union_two ws us = fun_ext (λ v. ap (λ b. among ws v || b) (or-false (among us v)) ∙ among_append ws us v)
 
 -- a union of sets that are each given by a list
-pub union_concat : {X : Type 0} (sees : X → Wires) (g : X → List ℕ) (xs : List X) → All (λ x. sees x ≡ among (g x)) xs → union (map sees xs) ≡ among (concat g xs)
+pub union_concat : {X : Type 0} (sees : X → Wires) (g : X → List ℕ) (xs : List X) → AllByRecursion (λ x. sees x ≡ among (g x)) xs → union (map sees xs) ≡ among (concat g xs)
 union_concat sees g [] h = refl
 union_concat sees g (x ∷ xs) h =
     fun_ext (λ v. ap₂ (λ (s t : Wires). s v || t v) h.0 (union_concat sees g xs h.1) ∙ among_append (g x) (concat g xs) v)
 
 -- what holds of each wire of the list holds of each wire of the set
-pub all_among : (P : ℕ → Type 0) (ws : List ℕ) → All P ws → (v : ℕ) → among ws v ≡ true → P v
+pub all_among : (P : ℕ → Type 0) (ws : List ℕ) → AllByRecursion P ws → (v : ℕ) → among ws v ≡ true → P v
 all_among P [] h v t = let z : ◌≡◌ {A = ℕ} 0 1 = cc in absurd (omega arith)
 all_among P (w ∷ ws) h v t = go (alone w v) refl t (all_among P ws h.1 v)
   where

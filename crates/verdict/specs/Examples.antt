@@ -1,6 +1,6 @@
 -- Worked examples: blocks with the verdict on each.
 use Rattle.std.specs.Prelude.{◌≡◌, ℕ, ◌+◌, ◌*◌, ◌^◌, List, [], ◌∷◌, ◌++◌, map, replicate, Ok, Err, Result}
-use Rattle.std.specs.List.{range_with_len, AllByRecursion as All}
+use Rattle.std.specs.List.{range_with_len, AllByRecursion}
 use Rattle.fault.specs.declared.NetlistFault.{NetlistFault}
 use Rattle.fault.specs.declared.NetlistFault.TheVariants.{BlockWires, BlockMasks, Recombination, Breadth, Leak}
 use Rattle.netlist.specs.declared.cell.Kind.{Kind}
@@ -63,4 +63,4 @@ examples =
     ∷ []
 
 abbrev pub VerdictsAsListed : Type 0
-VerdictsAsListed = All (λ e. verdict e.0 ≡ e.1) examples
+VerdictsAsListed = AllByRecursion (λ e. verdict e.0 ≡ e.1) examples

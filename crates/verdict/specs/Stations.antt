@@ -1,6 +1,6 @@
 -- The rules station by station: each is one test of a block, and a fault names the first station that fails.
 use Rattle.std.specs.Prelude.{◌≡◌, ℕ, zero, suc, ◌+◌, ◌≤◌, Bool, true, false, ◌⊎◌, List, [], ◌∷◌, ◌++◌, map, length}
-use Rattle.std.specs.List.{range_with_len, AllByRecursion as All}
+use Rattle.std.specs.List.{range_with_len, AllByRecursion}
 use Rattle.fault.specs.declared.NetlistFault.{NetlistFault}
 use Rattle.fault.specs.declared.NetlistFault.TheVariants.{BlockWires, BlockMasks, Recombination, Breadth, Leak}
 use Rattle.netlist.specs.Circuit.{Driver, fresh, stored, looked, Wires, share_count, wire_count, mask_count, seen, bit_of, number}
@@ -84,4 +84,4 @@ stations b = wires ∷ masks ∷ (map output (range_with_len 0 b.table.m) ++ sta
 -- s is the first of the list at which the rules do not hold: they hold at all before it, and not at s
 abbrev pub FirstFailing : Whole → List Station → Station → Type 0
 FirstFailing b ss s =
-    (before : List Station) × (after : List Station) × (ss ≡ before ++ (s ∷ after)) × All (Holds b) before × ¬ (Holds b s)
+    (before : List Station) × (after : List Station) × (ss ≡ before ++ (s ∷ after)) × AllByRecursion (Holds b) before × ¬ (Holds b s)

@@ -1,10 +1,10 @@
 use Rattle.std.proofs.Common.{refl}
-use Rattle.std.specs.List.{AllByRecursion as All}
+use Rattle.std.specs.List.{AllByRecursion}
 use Rattle.worked.specs.Examples.{examples, Holds}
 use Rattle.worked.proofs.Verdicts.{broad_verdict, full_verdict, and_verdict, low_verdict, one_mask_leaks, unregistered_leaks}
 use Rattle.worked.proofs.worked_blocks.Goals as goal
 
-worked : All Holds examples
+worked : AllByRecursion Holds examples
 worked = (
   refl,
   (
