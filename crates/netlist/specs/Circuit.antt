@@ -1,5 +1,5 @@
 -- What drives each wire, and what every wire carries: one fold over the drivers, for every kind of thing that a wire can carry.
-use Rattle.std.specs.Prelude.{ℕ, zero, suc, ◌+◌, ◌*◌, ◌/◌, ◌%◌, ◌^◌, max, Bool, true, false, ◌||◌, List, [], ◌∷◌, ◌++◌, map, length, get_or, replicate, ◌==◌, slice_index_or}
+use Rattle.std.specs.Prelude.{ℕ, zero, suc, ◌+◌, ◌*◌, ◌/◌, ◌%◌, ◌^◌, max, Bool, true, false, ◌||◌, List, [], ◌∷◌, ◌++◌, map, length, replicate, ◌==◌, slice_index_or}
 
 -- a fresh bit, a register of one wire, or a look-up: bit number A of a table, where bit t of A is on the t-th wire of a list
 pub data Driver : Type 0 where
@@ -44,7 +44,7 @@ module _ {V : Type 0} where
   abbrev pub carried : Carrier V → Driver → ℕ → List V → V
   carried A fresh k vs = A.source (length vs) k
   carried A (stored a) k vs = A.store (length vs) (slice_index_or vs a A.none)
-  carried A (looked t os) k vs = A.look t (map (λ o. get_or vs o A.none) os)
+  carried A (looked t os) k vs = A.look t (map (λ o. slice_index_or vs o A.none) os)
 
   -- what all wires carry
   abbrev pub carry : Carrier V → List Driver → ℕ → List V → List V
