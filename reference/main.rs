@@ -12,6 +12,7 @@ mod inspect;
 mod netlist;
 mod numbers;
 mod table;
+mod tour;
 mod vectors_files;
 mod vectors_generated;
 mod vectors_inspect;
@@ -25,7 +26,7 @@ use std::process::ExitCode;
 use generate::Answer;
 
 const USAGE: &str = "usage: vectors netlist | vectors files | vectors generated | \
-    vectors inspect | files longest | generate CONSTRUCTION INPUTS OUTPUTS ENTRY .. | \
+    vectors inspect | tour generated | files longest | generate CONSTRUCTION INPUTS OUTPUTS ENTRY .. | \
     bench netlist REPEATS | bench files REPEATS | bench check REPEATS | \
     bench generate REPEATS";
 
@@ -35,6 +36,7 @@ enum Task<'a> {
     FileVectors,
     GeneratedVectors,
     InspectVectors,
+    GeneratedTour,
     LongestFile,
     Generate { words: &'a [&'a str] },
     Bench { work: Work, repeats: u64 },
@@ -55,6 +57,7 @@ impl<'a> Task<'a> {
             ["vectors", "files"] => Some(Task::FileVectors),
             ["vectors", "generated"] => Some(Task::GeneratedVectors),
             ["vectors", "inspect"] => Some(Task::InspectVectors),
+            ["tour", "generated"] => Some(Task::GeneratedTour),
             ["files", "longest"] => Some(Task::LongestFile),
             ["generate", words @ ..] => Some(Task::Generate { words }),
             ["bench", work, repeats] => {
@@ -73,6 +76,7 @@ impl<'a> Task<'a> {
             Task::FileVectors => vectors_files::write_vectors(&mut out)?,
             Task::GeneratedVectors => vectors_generated::write_vectors(&mut out)?,
             Task::InspectVectors => vectors_inspect::write_vectors(&mut out)?,
+            Task::GeneratedTour => tour::write_lines(&mut out)?,
             Task::Generate { words } => write_generated(&mut out, words)?,
             Task::LongestFile => out.write_all(&bench::longest_file()?)?,
             Task::Bench { work, repeats } => {

@@ -162,7 +162,7 @@ fn write_block(out: &mut impl Write, block: &Block, numbers: &mut Numbers) -> Ou
 }
 
 /// The largest register count at the output wires.
-fn latency(block: &Block) -> Outcome<u16> {
+pub fn latency(block: &Block) -> Outcome<u16> {
     let mut counts = vec![0; block.netlist().wires()];
     count_registers(block.netlist(), &mut counts)?;
     let largest = block
