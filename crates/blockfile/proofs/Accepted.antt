@@ -14,7 +14,7 @@ use Rattle.blockfile.proofs.Steps.{err_ok}
 use Rattle.blockfile.proofs.Opening.{opened_drop, opened_payload}
 use Rattle.blockfile.proofs.Bodies.{body_length, body_cell, body_outputs}
 use Rattle.blockfile.proofs.Blocks.{BlockIn, block_in as found_in, read_is_lawful}
-use Rattle.blockfile.proofs.Parts.{get_d_part, pair_part}
+use Rattle.blockfile.proofs.Parts.{get_or_part, pair_part}
 use Rattle.blockfile.proofs.Pairs.{get_or_from}
 
 accepts : (r : Result Whole FieldFault) (u : Unit {0}) → Ok u ≡ forget r → is_ok r ≡ true
@@ -76,8 +76,8 @@ laid_out bytes b i =
     let l6 = i.table.long in
     let l7 = body_length (2 * n) m i.after b.cells b.outputs i.body in
     record {
-      inputs = sym (get_d_part bytes 3 2 0 (omega arith)) ∙ ap (λ ys. get_or ys 0 0) sizes ∙ sym i.inputs;
-      outputs = sym (get_d_part bytes 3 2 1 (omega arith)) ∙ ap (λ ys. get_or ys 1 0) sizes ∙ sym i.outputs;
+      inputs = sym (get_or_part bytes 3 2 0 (omega arith)) ∙ ap (λ ys. get_or ys 0 0) sizes ∙ sym i.inputs;
+      outputs = sym (get_or_part bytes 3 2 1 (omega arith)) ∙ ap (λ ys. get_or ys 1 0) sizes ∙ sym i.outputs;
       long = omega arith;
       entries = ap (take size) (sym (drop-drop 3 5 bytes)) ∙ ap (λ ys. take size (drop 3 ys)) rest ∙ opened_payload 2 size i.rest b.table.entries i.after i.table;
       cell = λ k h. body_cell (2 * n) m i.after b.cells b.outputs k h i.body ∙ ap (λ ys. cell_from (take 11 ys)) (behind (14 * k + 3) (8 + size + 14 * k + 3) (omega arith));
@@ -96,7 +96,7 @@ counted len body m k size eb el =
 -- an entry, a cell and a pair of wires, by their places
 pub entry_there : (bytes : List ℕ) (b : Whole) (a : ℕ) → Layout bytes b → a < 2 ^ b.table.n → length b.table.entries ≡ 2 ^ b.table.n → Some (get_or bytes (8 + a) 0) ≡ nth b.table.entries a
 entry_there bytes b a lay h whole =
-    ap Some (sym (get_d_part bytes 8 (2 ^ b.table.n) a h) ∙ ap (λ es. get_or es a 0) lay.entries) ∙ sym (nth_get_or b.table.entries a 0 (omega arith))
+    ap Some (sym (get_or_part bytes 8 (2 ^ b.table.n) a h) ∙ ap (λ es. get_or es a 0) lay.entries) ∙ sym (nth_get_or b.table.entries a 0 (omega arith))
 
 pub cell_there : (bytes : List ℕ) (b : Whole) (w place : ℕ) → Layout bytes b → 2 * b.table.n ≤ w → w < net_wires (net_part b) → place ≡ 8 + 2 ^ b.table.n + 14 * (w - 2 * b.table.n) + 3
     → Some (cell_from (take 11 (drop place bytes))) ≡ cell_at (net_part b) w

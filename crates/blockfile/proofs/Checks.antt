@@ -13,7 +13,7 @@ use Rattle.blockfile.specs.Answers.{Answer, forget, file_answer, sizes_answer, t
 use Rattle.blockfile.proofs.Steps.{err_ok, and_then_ok, and_then_at}
 use Rattle.blockfile.proofs.Opening.{opened_is}
 use Rattle.blockfile.proofs.Bounds.{passes, one_to_four_is, in_bounds_append}
-use Rattle.blockfile.proofs.Parts.{get_d_part, pair_part}
+use Rattle.blockfile.proofs.Parts.{get_or_part, pair_part}
 use Rattle.blockfile.proofs.Bodies.{a_cell, the_outputs}
 use Rattle.blockfile.proofs.Blocks.{size_bounds, table_of, whole_of, body_part, entry_part, table_part, size_part}
 
@@ -153,7 +153,7 @@ pub cell_tested : (bytes : List ℕ) (at w number t tl a la b lb c lc d ld : ℕ
     → in_bounds ((at, ltb number 9) ∷ (at + 1, ltb t tl) ∷ (at + 3, ltb a la) ∷ (at + 5, ltb b lb) ∷ (at + 7, ltb c lc) ∷ (at + 9, ltb d ld) ∷ [])
     ≡ in_bounds (cell_bounds at w (take 11 (drop at bytes)))
 cell_tested bytes at w number t tl a la b lb c lc d ld x ex en et etl ea ela eb elb ec elc ed eld =
-    let k : number ≡ get_or (take 11 (drop at bytes)) 0 0 = en ∙ sym (get_d_part bytes at 11 0 (omega arith) ∙ ap (λ i. get_or bytes i 0) (add-zero at)) in
+    let k : number ≡ get_or (take 11 (drop at bytes)) 0 0 = en ∙ sym (get_or_part bytes at 11 0 (omega arith) ∙ ap (λ i. get_or bytes i 0) (add-zero at)) in
     rw (k, et, etl, ea, ela, eb, elb, ec, elc, ed, eld, ex)
 
 -- the last field by its parts
@@ -322,8 +322,8 @@ pub file_parts : (bytes : List ℕ)
 file_parts bytes =
     let t = length bytes in
     let xs = drop 3 bytes in
-    let en : get_or (take 2 xs) 0 0 ≡ get_or bytes 3 0 = get_d_part bytes 3 2 0 (omega arith) in
-    let em : get_or (take 2 xs) 1 0 ≡ get_or bytes 4 0 = get_d_part bytes 3 2 1 (omega arith) in
+    let en : get_or (take 2 xs) 0 0 ≡ get_or bytes 3 0 = get_or_part bytes 3 2 0 (omega arith) in
+    let em : get_or (take 2 xs) 1 0 ≡ get_or bytes 4 0 = get_or_part bytes 3 2 1 (omega arith) in
     let back : drop 2 xs ≡ drop 5 bytes = drop-drop 2 3 bytes in
     let n = get_or bytes 3 0 in
     let m = get_or bytes 4 0 in

@@ -3,20 +3,20 @@ use Rattle.std.proofs.Common.{◌≡◌, ℕ, suc, ◌+◌, ◌<◌, ◌≤◌, 
 use Rattle.std.proofs.lemmas.List.{get_or-take, get_or-drop, length-take-le}
 use Rattle.blockfile.specs.Reading.{kind_of, pair_at, cell_from}
 
-pub get_d_part : (bs : List ℕ) (at size i : ℕ) → i < size → get_or (take size (drop at bs)) i 0 ≡ get_or bs (at + i) 0
-get_d_part bs at size i h = get_or-take size (drop at bs) i 0 h ∙ get_or-drop at bs i 0
+pub get_or_part : (bs : List ℕ) (at size i : ℕ) → i < size → get_or (take size (drop at bs)) i 0 ≡ get_or bs (at + i) 0
+get_or_part bs at size i h = get_or-take size (drop at bs) i 0 h ∙ get_or-drop at bs i 0
 
 pub pair_part : (bs : List ℕ) (at size i : ℕ) → suc i < size → pair_at (take size (drop at bs)) i ≡ pair_at bs (at + i)
 pair_part bs at size i h =
-    let hi = get_d_part bs at size i (omega arith) in
-    let lo = get_d_part bs at size (suc i) h ∙ ap (λ k. get_or bs k 0) (add-suc at i) in
+    let hi = get_or_part bs at size i (omega arith) in
+    let lo = get_or_part bs at size (suc i) h ∙ ap (λ k. get_or bs k 0) (add-suc at i) in
     cc
 
 -- the cell in eleven bytes
 pub cell_part : (bs : List ℕ) (at : ℕ) →
     record { kind = kind_of (get_or bs at 0); table = pair_at bs (at + 1); a = pair_at bs (at + 3); b = pair_at bs (at + 5); c = pair_at bs (at + 7); d = pair_at bs (at + 9) } ≡ cell_from (take 11 (drop at bs))
 cell_part bs at =
-    let k = get_d_part bs at 11 0 (omega arith) ∙ ap (λ i. get_or bs i 0) (add-zero at) in
+    let k = get_or_part bs at 11 0 (omega arith) ∙ ap (λ i. get_or bs i 0) (add-zero at) in
     let p1 = pair_part bs at 11 1 (omega arith) in
     let p3 = pair_part bs at 11 3 (omega arith) in
     let p5 = pair_part bs at 11 5 (omega arith) in

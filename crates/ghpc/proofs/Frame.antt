@@ -51,7 +51,7 @@ module _ {C : Type 0} (k n m b : ℕ) (mask : C) (pair output : ℕ → List C) 
       ∙ at_row m b output broad c r h l
 
 -- every wire is a share, a mask, one of a pair or one of an output
-module _ (p k n m b : ℕ) (Q : ℕ → Type 0) (some-wires : 0 < b)
+module _ (p k n m b : ℕ) (Q : ℕ → Type 0) (some_wires : 0 < b)
     (share : (w : ℕ) → w < p → Q w) (mask : (j : ℕ) → j < k → Q (p + j)) (pair : (i r : ℕ) → i < n → r < 2 → Q (p + k + 2 * i + r))
     (output : (c r : ℕ) → c < m → r < b → Q (p + k + 2 * n + c * b + r)) where
   pub each_place : (w : ℕ) → w < p + k + 2 * n + m * b → Q w
@@ -67,7 +67,7 @@ module _ (p k n m b : ℕ) (Q : ℕ → Type 0) (some-wires : 0 < b)
           subst Q e (pair (j / 2) (j % 2) s.0 s.1)
       go (no x) (no y) (no z) =
           let j = w - (p + k + 2 * n) in
-          let s = row_at m b j some-wires (omega arith) in
+          let s = row_at m b j some_wires (omega arith) in
           let e : p + k + 2 * n + j / b * b + j % b ≡ w = omega (arith, s.2) in
           subst Q e (output (j / b) (j % b) s.0 s.1)
 

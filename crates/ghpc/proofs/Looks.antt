@@ -13,13 +13,13 @@ use Rattle.isolation.specs.Patterns.{share_wire}
 use Rattle.ghpc.specs.Gates.{each, look_kind, cell_of}
 use Rattle.ghpc.proofs.Rows.{length_each, get_or_each}
 
-get_d_past : (xs : List ℕ) (i : ℕ) → length xs ≤ i → get_or xs i 0 ≡ 0
-get_d_past [] i h = refl
-get_d_past (x ∷ xs) zero h = absurd (omega arith)
-get_d_past (x ∷ xs) (suc i) h = get_d_past xs i (omega arith)
+get_or_past : (xs : List ℕ) (i : ℕ) → length xs ≤ i → get_or xs i 0 ≡ 0
+get_or_past [] i h = refl
+get_or_past (x ∷ xs) zero h = absurd (omega arith)
+get_or_past (x ∷ xs) (suc i) h = get_or_past xs i (omega arith)
 
 pub share_past : (n i : ℕ) (d : Bool) → n ≤ i → 0 ≡ get_or (each n (share_wire d)) i 0
-share_past n i d h = sym (get_d_past (each n (share_wire d)) i (omega (arith, length_each n (share_wire d))))
+share_past n i d h = sym (get_or_past (each n (share_wire d)) i (omega (arith, length_each n (share_wire d))))
 
 pub share_1 : (n i : ℕ) (d : Bool) → i < n → d ≡ true → 2 * i + 1 ≡ get_or (each n (share_wire d)) i 0
 share_1 n i d h e = sym (get_or_each n (share_wire d) i 0 h ∙ ap (λ b. share_wire b i) e)

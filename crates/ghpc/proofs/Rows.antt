@@ -32,10 +32,10 @@ module _ {A : Type 0} where
   at_get_or (x ∷ xs) zero d h = refl
   at_get_or (x ∷ xs) (suc j) d h = at_get_or xs j d (omega arith)
 
-  pub get_d_some : (xs : List A) (j : ℕ) (x d : A) → get_elem? xs j ≡ some x → get_or xs j d ≡ x
-  get_d_some [] j x d e = let z : ◌≡◌ {A = ℕ} 0 1 = cc in absurd (omega arith)
-  get_d_some (y ∷ ys) zero x d e = cc
-  get_d_some (y ∷ ys) (suc j) x d e = get_d_some ys j x d e
+  pub get_or_some : (xs : List A) (j : ℕ) (x d : A) → get_elem? xs j ≡ some x → get_or xs j d ≡ x
+  get_or_some [] j x d e = let z : ◌≡◌ {A = ℕ} 0 1 = cc in absurd (omega arith)
+  get_or_some (y ∷ ys) zero x d e = cc
+  get_or_some (y ∷ ys) (suc j) x d e = get_or_some ys j x d e
 
 -- one each
 module _ {A : Type 0} (k : ℕ) (f : ℕ → A) where
@@ -88,7 +88,7 @@ rows_last k f = ap (flat_map f) (counting_last 0 k ∙ ap (λ n. range_with_len 
 -- a place in a grid of k rows of w
 pub get_or_grid : {A : Type 0} (k w : ℕ) (f : ℕ → ℕ → A) (d : A) (c i : ℕ) → c < k → i < w → get_or (rows k (λ c. each w (f c))) (c * w + i) d ≡ f c i
 get_or_grid k w f d c i h l =
-    get_d_some (rows k (λ c. each w (f c))) (c * w + i) (f c i) d
+    get_or_some (rows k (λ c. each w (f c))) (c * w + i) (f c i) d
     (at_row k w (λ c. each w (f c)) (λ c. length_each w (f c)) c i h l ∙ at_each w (f c) i l)
 
 -- what holds of each

@@ -5,14 +5,14 @@ use lib.ListN.{get_elem?}
 use Rattle.std.specs.List.{AllByRecursion}
 use Rattle.netlist.specs.Circuit.{Driver, fresh, stored, looked, Carrier, carry}
 use Rattle.isolation.proofs.Reading.{AllBelow, fresh_before_all, at_fresh, at_stored, at_looked}
-use Rattle.ghpc.proofs.Rows.{get_d_some}
+use Rattle.ghpc.proofs.Rows.{get_or_some}
 
 -- x stands on wire w, where cs stand from wire p on
 abbrev pub Stands : {C : Type 0} → ℕ → List C → ℕ → C → Type 0
 Stands p cs w x = (j : ℕ) × (w ≡ p + j) × (get_elem? cs j ≡ some x)
 
 pub get_or_stands : {C : Type 0} (p : ℕ) (cs : List C) (w : ℕ) (x d : C) → Stands p cs w x → get_or cs (w - p) d ≡ x
-get_or_stands p cs w x d s = let e : w - p ≡ s.0 = omega (arith, s.1) in ap (λ j. get_or cs j d) e ∙ get_d_some cs s.0 x d s.2
+get_or_stands p cs w x d s = let e : w - p ≡ s.0 = omega (arith, s.1) in ap (λ j. get_or cs j d) e ∙ get_or_some cs s.0 x d s.2
 
 all_below : (w : ℕ) (os : List ℕ) → AllByRecursion (λ o. o < w) os → AllBelow w os
 all_below w [] h = tt
