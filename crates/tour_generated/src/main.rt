@@ -15,7 +15,7 @@ use lines::numbers::refusal;
 use std::alloc::{AllocError, Global};
 use worked::worked_blocks;
 
-// More than the file of any block of two inputs and one output has.
+// More than the file of any GHPC block of two inputs and one output has.
 const ROOM: usize = 512;
 
 // One line: a label and what follows it.

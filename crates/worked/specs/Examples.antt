@@ -45,7 +45,7 @@ refused f = judged (Err f)
 
 -- in their order: a wiring; its outputs exchanged, so that bundle 0 is a share of domain 1; an idle XOR of both shares of an input;
 -- a wiring under a table that is zero; nine MASK cells; one wire too many; a probe that sees one wire too many, and one that sees just enough;
--- GHPC and GHPC_LL of AND; GHPC of PRESENT; GHPC_LL of AND with one mask for all registers; GHPC of AND without its last registers
+-- GHPC and GHPC_LL of AND; GHPC of PRESENT; GHPC_LL of AND with one mask for all registers; GHPC of AND without the registers after its AND cells
 abbrev pub examples : List (Whole × Claim)
 examples =
     (wiring [], accepted 2 0 0)
