@@ -10,20 +10,20 @@ pub trait Block: Netlist {
     // The table, the cells and the outputs.
     ghost block: { Self → Whole };
 
-    // That all bounds hold of them.
-    ghost whole: { (x : Self) → LawfulBlock (block x) };
-
     fn outputs(&self) -> usize
-        ensures value { result ≡ (block self.now).table.m }
-        ensures part { Self.net self.now ≡ net_part (block self.now) };
+        ensures { result ≡ (block self.now).table.m };
 
     // The table's entry at an argument, and none past the last.
     fn entry(&self, argument: usize) -> Option<u8>
-        ensures value { result ≡ nth (block self.now).table.entries argument }
-        ensures part { Self.net self.now ≡ net_part (block self.now) };
+        ensures { result ≡ nth (block self.now).table.entries argument };
 
     // The wires of an output, that of domain 0 first, and none past the last output.
     fn output(&self, c: usize) -> Option<(u16, u16)>
-        ensures value { result ≡ nth (block self.now).outputs c }
-        ensures part { Self.net self.now ≡ net_part (block self.now) };
+        ensures { result ≡ nth (block self.now).outputs c };
+
+    // Its netlist is that of the table's inputs and the cells.
+    ghost part: { (x : Self) → Self.net x ≡ net_part (block x) };
+
+    // All bounds hold of the table, the cells and the outputs.
+    ghost whole: { (x : Self) → LawfulBlock (block x) };
 }

@@ -1,5 +1,5 @@
 -- The cause, the layer and the place of each fault.
-use Rattle.std.specs.Prelude.{ℕ}
+use Rattle.std.specs.Prelude.{ℕ, List, ◌++◌, codes, decimal}
 use Rattle.fault.specs.declared.Report.{Report}
 use Rattle.fault.specs.declared.FieldFault.{FieldFault}
 use Rattle.fault.specs.declared.FieldFault.TheVariants.{Cut, Tag, Length, Value, Trailing}
@@ -8,6 +8,10 @@ use Rattle.fault.specs.declared.NetlistFault.TheVariants.{Field, TableSize, Tabl
 
 abbrev pub report_of : ℕ → ℕ → ℕ → Report
 report_of cause layer place = record { cause = cause; layer = layer; place = place }
+
+-- the line that a person is shown: cause, layer and place in decimal
+abbrev pub refusal_line : Report → List ℕ
+refusal_line r = codes "refused " ++ (decimal r.cause ++ (codes " layer " ++ (decimal r.layer ++ (codes " place " ++ decimal r.place))))
 
 abbrev pub field_report : FieldFault → Report
 field_report (Cut place) = report_of 4 1 place

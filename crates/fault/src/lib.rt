@@ -1,13 +1,16 @@
 // Why something was refused: a cause, the layer that met it, and a place.
 #![tactic(auto)]
 
-ghost use Rattle.std.specs.Prelude.{◌≡◌};
+ghost use Rattle.std.specs.Prelude.{◌≡◌, Some};
 ghost use Rattle.fault.specs.declared.NetlistFault.TheVariants.{Field};
 ghost use Rattle.fault.specs.declared.Report.{Report};
-ghost use Rattle.fault.specs.Faults.{field_report, netlist_report};
+ghost use Rattle.fault.specs.Faults.{field_report, netlist_report, refusal_line};
+
+use std::error::Error;
+use std::fmt;
 
 // What a refusal tells: all that a user is shown of it.
-#[derive(Clone, Copy)]
+#[derive(Clone, Copy, Debug, PartialEq, Eq)]
 pub struct Report {
     pub cause: u8,
     pub layer: u8,
@@ -15,7 +18,7 @@ pub struct Report {
 }
 
 // A file that its writer has to mend; each holds the place in the file.
-#[derive(Clone, Copy, PartialEq, Eq)]
+#[derive(Clone, Copy, Debug, PartialEq, Eq)]
 pub enum FieldFault {
     // the file ends too early
     Cut(usize),
@@ -30,7 +33,7 @@ pub enum FieldFault {
 }
 
 // A fault of a field, or one of a table, a block, a query or the memory handed over.
-#[derive(Clone, Copy, PartialEq, Eq)]
+#[derive(Clone, Copy, Debug, PartialEq, Eq)]
 pub enum NetlistFault {
     Field(FieldFault),
     // a table whose sizes are out of bounds, or with a wrong number of entries
@@ -57,6 +60,18 @@ pub enum NetlistFault {
     Bit(usize),
     // how much memory is needed
     Memory(usize),
+}
+
+// The line of a refusal, all numbers in decimal.
+impl fmt::Display for Report {
+    ghost output = { λ r. Some (refusal_line r) };
+
+    fn fmt<W: fmt::Write>(&self, f: &mut fmt::Formatter<W>) -> fmt::Result {
+        let cause = self.cause;
+        let layer = self.layer;
+        let place = self.place;
+        write!(f, "refused {cause} layer {layer} place {place}")
+    }
 }
 
 // What every fault tells.
@@ -138,3 +153,23 @@ impl From<FieldFault> for NetlistFault {
         NetlistFault::Field(f)
     }
 }
+
+impl fmt::Display for FieldFault {
+    ghost output = { λ f. Some (refusal_line (field_report f)) };
+
+    fn fmt<W: fmt::Write>(&self, f: &mut fmt::Formatter<W>) -> fmt::Result {
+        self.report().fmt(f)
+    }
+}
+
+impl fmt::Display for NetlistFault {
+    ghost output = { λ f. Some (refusal_line (netlist_report f)) };
+
+    fn fmt<W: fmt::Write>(&self, f: &mut fmt::Formatter<W>) -> fmt::Result {
+        self.report().fmt(f)
+    }
+}
+
+impl Error for FieldFault {}
+
+impl Error for NetlistFault {}

@@ -1,6 +1,7 @@
 -- The nine kinds of cell, what drives a wire through each, and which cells may drive a wire.
-use Rattle.std.specs.Prelude.{ℕ, ◌<◌, cond, [], ◌∷◌, nat_lt}
+use Rattle.std.specs.Prelude.{ℕ, ◌<◌, cond, [], ◌∷◌, Ok, Err, Result, nat_lt, slice_index_or}
 use Rattle.netlist.specs.declared.cell.Kind.{Kind}
+use Rattle.netlist.specs.declared.cell.UnknownKind.{UnknownKind}
 use Rattle.netlist.specs.declared.cell.Kind.TheVariants.{Mask, Not, And, Xor, Reg, Look1, Look2, Look3, Look4}
 use Rattle.netlist.specs.declared.cell.Cell.{Cell}
 use Rattle.netlist.specs.Circuit.{Driver, fresh, stored, looked}
@@ -32,6 +33,24 @@ arity Look2 = 2
 arity Look3 = 3
 arity Look4 = 4
 
+-- the number of a kind, and the kind of a number
+abbrev pub kind_number : Kind → ℕ
+kind_number Mask = 0
+kind_number Not = 1
+kind_number And = 2
+kind_number Xor = 3
+kind_number Reg = 4
+kind_number Look1 = 5
+kind_number Look2 = 6
+kind_number Look3 = 7
+kind_number Look4 = 8
+
+abbrev pub kind_of : ℕ → Kind
+kind_of k = slice_index_or (Mask ∷ Not ∷ And ∷ Xor ∷ Reg ∷ Look1 ∷ Look2 ∷ Look3 ∷ []) k Look4
+
+abbrev pub decoded : ℕ → Result Kind UnknownKind
+decoded k = cond (nat_lt k 9) (Ok (kind_of k)) (Err (record { 0 = k }))
+
 -- what a table stays below: 2^(2^n) for a look-up of n operands; elsewhere it is unused, and zero
 abbrev pub table_limit : Kind → ℕ
 table_limit Mask = 1
@@ -59,3 +78,7 @@ Fits w x =
 
 abbrev pub no_cell : Cell
 no_cell = record { kind = Mask; table = 0; a = 0; b = 0; c = 0; d = 0 }
+
+-- a cell with no table and at most two operands
+abbrev pub gate_of : Kind → ℕ → ℕ → Cell
+gate_of kind a b = record { kind = kind; table = 0; a = a; b = b; c = 0; d = 0 }

@@ -15,6 +15,14 @@ net_wires net = 2 * net.inputs + length net.cells
 abbrev pub circuit : Net → Circuit
 circuit net = record { inputs = net.inputs; drivers = map driver net.cells }
 
+-- the netlist of some inputs and cells
+abbrev pub net_of : ℕ → List Cell → Net
+net_of p cells = record { inputs = p; cells = cells }
+
+-- one input and no cell
+abbrev pub identity_net : Net
+identity_net = net_of 1 []
+
 -- each cell may drive its wire, the first one the wire after the shares
 abbrev pub CellsFit : ℕ → List Cell → Type 0
 CellsFit p cells = (k : ℕ) → k < length cells → Fits (2 * p + k) (slice_index_or cells k no_cell)

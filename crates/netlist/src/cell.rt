@@ -1,9 +1,12 @@
 // The cells that drive wires.
-ghost use Rattle.std.specs.Prelude.{◌≡◌, Decides};
-ghost use Rattle.netlist.specs.Cells.{arity, table_limit, operand_limit, Fits};
+ghost use Rattle.std.specs.Prelude.{◌≡◌, ◌<◌, [], ◌∷◌, Decides};
+ghost use Rattle.netlist.specs.Cells.{arity, table_limit, operand_limit, kind_number, decoded, gate_of, Fits};
+
+use std::error::Error;
+use std::fmt;
 
 // A fresh bit, a gate, a register, or a look-up of one to four operands.
-#[derive(Clone, Copy, PartialEq, Eq)]
+#[derive(Clone, Copy, Debug, PartialEq, Eq)]
 pub enum Kind {
     Mask,
     Not,
@@ -16,8 +19,12 @@ pub enum Kind {
     Look4,
 }
 
+// A number that no kind of cell has.
+#[derive(Clone, Copy, Debug, PartialEq, Eq)]
+pub struct UnknownKind(pub u8);
+
 // Operands are wire numbers; the parts that the kind does not use are zero.
-#[derive(Clone, Copy, PartialEq, Eq)]
+#[derive(Clone, Copy, Debug, PartialEq, Eq)]
 pub struct Cell {
     pub kind: Kind,
     pub table: u16,
@@ -53,25 +60,114 @@ impl Kind {
             _ => 1,
         }
     }
+
+    // What operand number `t` of a cell of this kind stays below, on wire `wire`.
+    pub fn operand_limit(self, wire: usize, t: u8) -> usize
+        ensures { result ≡ operand_limit wire t (arity self) }
+    {
+        if t < self.operands() { wire } else { 1 }
+    }
 }
 
-// What operand number `t` of a cell with `n` operands stays below, on wire `wire`.
-fn operand_limit(wire: usize, t: u8, n: u8) -> usize
-    ensures { result ≡ operand_limit wire t n }
-{
-    if t < n { wire } else { 1 }
+// A kind by its number.
+impl From<Kind> for u8 {
+    ghost from_gives = { λ kind r. r ≡ kind_number kind };
+
+    fn from(kind: Kind) -> u8 {
+        kind as u8
+    }
 }
+
+impl TryFrom<u8> for Kind {
+    type Error = UnknownKind;
+
+    ghost try_from_gives = { λ number r. r ≡ decoded number };
+
+    fn try_from(number: u8) -> Result<Kind, UnknownKind> {
+        match number {
+            0 => Ok(Kind::Mask),
+            1 => Ok(Kind::Not),
+            2 => Ok(Kind::And),
+            3 => Ok(Kind::Xor),
+            4 => Ok(Kind::Reg),
+            5 => Ok(Kind::Look1),
+            6 => Ok(Kind::Look2),
+            7 => Ok(Kind::Look3),
+            8 => Ok(Kind::Look4),
+            _ => Err(UnknownKind(number)),
+        }
+    }
+}
+
+impl fmt::Display for Kind {
+    fn fmt<W: fmt::Write>(&self, f: &mut fmt::Formatter<W>) -> fmt::Result {
+        f.write_str(match self {
+            Kind::Mask => "mask",
+            Kind::Not => "not",
+            Kind::And => "and",
+            Kind::Xor => "xor",
+            Kind::Reg => "reg",
+            Kind::Look1 | Kind::Look2 | Kind::Look3 | Kind::Look4 => "look",
+        })
+    }
+}
+
+impl fmt::Display for UnknownKind {
+    fn fmt<W: fmt::Write>(&self, f: &mut fmt::Formatter<W>) -> fmt::Result {
+        write!(f, "no kind of cell has the number {}", self.0)
+    }
+}
+
+impl Error for UnknownKind {}
 
 impl Cell {
+    // A cell that is no look-up, of at most two operands; those that its kind does not have are zero.
+    pub fn gate(kind: Kind, a: u16, b: u16) -> Cell
+        ensures { result ≡ gate_of kind a b }
+    {
+        Cell {
+            kind,
+            table: 0,
+            a,
+            b,
+            c: 0,
+            d: 0,
+        }
+    }
+
+    // Its operands, and zero for those that its kind does not have.
+    pub fn operands(&self) -> [u16; 4]
+        ensures { result ≡ self.now.a ∷ self.now.b ∷ self.now.c ∷ self.now.d ∷ [] }
+    {
+        [self.a, self.b, self.c, self.d]
+    }
+
     // Whether the cell may drive the wire: operands below it, unused parts zero.
     pub fn fits(&self, wire: usize) -> bool
         ensures { Decides result (Fits wire self.now) }
     {
-        let n = self.kind.operands();
         u32::from(self.table) < self.kind.table_limit()
-            && usize::from(self.a) < operand_limit(wire, 0, n)
-            && usize::from(self.b) < operand_limit(wire, 1, n)
-            && usize::from(self.c) < operand_limit(wire, 2, n)
-            && usize::from(self.d) < operand_limit(wire, 3, n)
+            && usize::from(self.a) < self.kind.operand_limit(wire, 0)
+            && usize::from(self.b) < self.kind.operand_limit(wire, 1)
+            && usize::from(self.c) < self.kind.operand_limit(wire, 2)
+            && usize::from(self.d) < self.kind.operand_limit(wire, 3)
+    }
+}
+
+// The kind, the table of a look-up in hexadecimal, and the operands in use.
+impl fmt::Display for Cell {
+    fn fmt<W: fmt::Write>(&self, f: &mut fmt::Formatter<W>) -> fmt::Result {
+        write!(f, "{}", self.kind)?;
+        if self.kind.table_limit() > 1 {
+            write!(f, " {:x}", self.table)?;
+        }
+        for operand in self
+            .operands()
+            .iter()
+            .take(usize::from(self.kind.operands()))
+        {
+            write!(f, " {operand}")?;
+        }
+        Ok(())
     }
 }

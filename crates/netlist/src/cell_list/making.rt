@@ -1,15 +1,11 @@
 // Making a list of cells, and its answers as a netlist.
 ghost use Rattle.std.specs.Prelude.{◌≡◌, Decides};
-ghost use Rattle.netlist.specs.Nets.{Lawful};
-ghost use Rattle.netlist.specs.CellLists.{net_of, listed, identity_net, listed_lawful};
+ghost use Rattle.netlist.specs.Nets.{Lawful, net_of, identity_net};
+ghost use Rattle.netlist.specs.CellLists.{listed, listed_lawful, Listing};
 
 use crate::cell::Cell;
 use crate::cell_list::CellList;
-use crate::netlist::Netlist;
-
-const MOST_INPUTS: usize = 8;
-
-const MOST_WIRES: usize = 4096;
+use crate::netlist::{MOST_INPUTS, MOST_WIRES, Netlist};
 
 static NO_CELLS: [Cell; 0] = [];
 
@@ -21,12 +17,22 @@ impl<'a> CellList<'a> {
         if inputs < 1 || inputs > MOST_INPUTS || cells.len() > MOST_WIRES - 2 * inputs {
             return false;
         }
-        for k in 0..cells.len() {
-            if !cells[k].fits(2 * inputs + k) {
+        for (k, cell) in cells.iter().enumerate() {
+            if !cell.fits(2 * inputs + k) {
                 return false;
             }
         }
         true
+    }
+
+    // The netlist of these cells, where they are lawful.
+    pub fn try_new(inputs: usize, cells: &'a [Cell]) -> Option<CellList<'a>>
+        ensures { Listing (net_of inputs cells.now) result }
+    {
+        if !CellList::check(inputs, cells) {
+            return None;
+        }
+        Some(CellList { inputs, cells })
     }
 
     // The netlist of these cells where they are lawful, else one input and no cell.
@@ -34,14 +40,10 @@ impl<'a> CellList<'a> {
         ensures lawful { Lawful (net_of inputs cells.now) → listed result ≡ net_of inputs cells.now }
         ensures unlawful { (Lawful (net_of inputs cells.now) → ⊥) → listed result ≡ identity_net }
     {
-        if CellList::check(inputs, cells) {
-            CellList { inputs, cells }
-        } else {
-            CellList {
-                inputs: 1,
-                cells: &NO_CELLS,
-            }
-        }
+        CellList::try_new(inputs, cells).unwrap_or(CellList {
+            inputs: 1,
+            cells: &NO_CELLS,
+        })
     }
 }
 
@@ -59,10 +61,6 @@ impl Netlist for CellList<'_> {
     }
 
     fn cell(&self, wire: usize) -> Option<Cell> {
-        let first = 2 * self.inputs;
-        if wire < first || wire - first >= self.cells.len() {
-            return None;
-        }
-        Some(self.cells[wire - first])
+        self.cells.get(wire.checked_sub(2 * self.inputs)?).copied()
     }
 }
