@@ -25,6 +25,11 @@ entries_answer limit i (e ∷ es) = cond (nat_lt e limit) (entries_answer limit 
 abbrev pub table_answer : ℕ → ℕ → List ℕ → Result (Unit {0}) NetlistFault
 table_answer n m entries = cond (sizes_fit n m (length entries)) (entries_answer (2 ^ m) 0 entries) (Err TableSize)
 
+-- a table is made of these numbers, or refused
+abbrev pub Makes : Result TruthTable NetlistFault → ℕ → ℕ → List ℕ → Type 0
+Makes (Ok t) n m entries = (table_answer n m entries ≡ Ok tt) × (tabled t ≡ table_of n m entries)
+Makes (Err f) n m entries = table_answer n m entries ≡ Err f
+
 -- what the caller's table is after filling: the new one whole, or the old one
 abbrev pub Filled : Result (Unit {0}) NetlistFault → ℕ → ℕ → List ℕ → TruthTable → TruthTable → Type 0
 Filled (Ok _) n m entries old new = tabled new ≡ table_of n m entries

@@ -2,7 +2,7 @@
 ghost use Rattle.std.specs.Prelude.{◌≡◌, ℕ, ◌-◌, ◌^◌, ◌<◌, ◌≤◌, ◌++◌, length, replicate};
 ghost use Rattle.netlist.specs.Nets.{nth};
 ghost use Rattle.block.specs.Blocks.{output_at};
-ghost use Rattle.block.specs.Tables.{tabled, table_of, entries_answer, table_answer, Filled, identity_table};
+ghost use Rattle.block.specs.Tables.{tabled, table_of, entries_answer, table_answer, Makes, Filled, identity_table};
 
 use crate::table::TruthTable;
 use fault::NetlistFault;
@@ -32,9 +32,7 @@ fn padded(entries: &[u8]) -> [u8; 16]
     ensures { result ≡ entries.now ++ replicate (16 - length entries.now) 0 }
 {
     let mut all = [0u8; 16];
-    for i in 0..entries.len() {
-        all[i] = entries[i];
-    }
+    all[..entries.len()].copy_from_slice(entries);
     all
 }
 
@@ -50,21 +48,37 @@ impl TruthTable {
         }
     }
 
-    // Fills the table whole, or leaves it as it was.
-    pub fn fill(&mut self, n: usize, m: usize, entries: &[u8]) -> Result<(), NetlistFault>
-        ensures answer { result ≡ table_answer n m entries.now }
-        ensures after { Filled result n m entries.now self.old self.new }
+    // The table of these numbers and entries, where it is lawful.
+    pub fn try_new(n: usize, m: usize, entries: &[u8]) -> Result<TruthTable, NetlistFault>
+        ensures { Makes result n m entries.now }
     {
         if n < 1 || n > 4 || m < 1 || m > 4 || entries.len() != power(n) {
             return Err(NetlistFault::TableSize);
         }
         check_entries(power(m), entries)?;
-        *self = TruthTable {
+        Ok(TruthTable {
             n,
             m,
             entries: padded(entries),
-        };
+        })
+    }
+
+    // Fills the table whole, or leaves it as it was.
+    pub fn fill(&mut self, n: usize, m: usize, entries: &[u8]) -> Result<(), NetlistFault>
+        ensures answer { result ≡ table_answer n m entries.now }
+        ensures after { Filled result n m entries.now self.old self.new }
+    {
+        *self = TruthTable::try_new(n, m, entries)?;
         Ok(())
+    }
+
+    // How many arguments there are.
+    pub fn arguments(&self) -> usize
+        ensures count { result ≡ 2 ^ (tabled self.now).n }
+        ensures some { 2 ≤ result }
+        ensures few { result ≤ 16 }
+    {
+        power(self.n)
     }
 
     // How many input bits there are.
@@ -85,11 +99,7 @@ impl TruthTable {
     pub fn entry(&self, argument: usize) -> Option<u8>
         ensures { result ≡ nth (tabled self.now).entries argument }
     {
-        if argument < power(self.n) {
-            Some(self.entries[argument])
-        } else {
-            None
-        }
+        self.entries[..power(self.n)].get(argument).copied()
     }
 
     // Output `c` at an argument; zero past the last output and the last argument.
