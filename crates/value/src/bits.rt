@@ -1,7 +1,7 @@
 // A bit in a byte, of which only the lowest bit counts.
-ghost use Rattle.std.specs.Prelude.{◌≡◌, ◌/◌, ◌%◌, ◌^◌, ◌<◌};
-ghost use Rattle.netlist.specs.Circuit.{bit, bit_of};
-ghost use Rattle.value.specs.Values.{lane_ops};
+ghost use Rattle.std.specs.Prelude.{◌≡◌, ◌/◌, ◌%◌, ◌^◌, ◌<◌, ◌≤◌, length, map};
+ghost use Rattle.netlist.specs.Circuit.{bit, bit_of, number};
+ghost use Rattle.value.specs.Values.{lane, lane_ops};
 
 use crate::wire_value::WireValue;
 
@@ -11,6 +11,18 @@ pub(crate) fn table_bit(table: u16, i: u8) -> u8
     ensures { result ≡ bit_of (bit table i) }
 {
     ((table >> i) % 2) as u8
+}
+
+// The number whose bits the operands carry, the first of them the lowest.
+fn index(operands: &[u8]) -> u8
+    requires { length operands.now ≤ 4 }
+    ensures value { result ≡ number (map (lane 0) operands.now) }
+    ensures bound { result < 2 ^ length operands.now }
+{
+    match operands {
+        [] => 0,
+        [first, rest @ ..] => first % 2 + 2 * index(rest),
+    }
 }
 
 impl WireValue for u8 {
@@ -36,13 +48,7 @@ impl WireValue for u8 {
         self
     }
 
-    fn look(table: u16, width: u8, a: u8, b: u8, c: u8, d: u8) -> u8 {
-        match width {
-            0 => table_bit(table, 0),
-            1 => table_bit(table, a % 2),
-            2 => table_bit(table, a % 2 + 2 * (b % 2)),
-            3 => table_bit(table, a % 2 + 2 * (b % 2) + 4 * (c % 2)),
-            _ => table_bit(table, a % 2 + 2 * (b % 2) + 4 * (c % 2) + 8 * (d % 2)),
-        }
+    fn look(table: u16, operands: &[u8]) -> u8 {
+        table_bit(table, index(&operands[..operands.len().min(4)]))
     }
 }

@@ -1,8 +1,16 @@
 // Register counts.
 ghost use Rattle.std.specs.Prelude.{◌≡◌};
+ghost use Rattle.netlist.specs.Circuit.{largest};
 ghost use Rattle.value.specs.Values.{count_ops};
 
 use crate::wire_value::WireValue;
+
+// The largest count, and zero where there is none.
+fn largest(counts: &[u16]) -> u16
+    ensures { result ≡ largest counts.now }
+{
+    counts.iter().copied().max().unwrap_or(0)
+}
 
 impl WireValue for u16 {
     ghost ops = { count_ops };
@@ -27,13 +35,7 @@ impl WireValue for u16 {
         self.saturating_add(1)
     }
 
-    fn look(_table: u16, width: u8, a: u16, b: u16, c: u16, d: u16) -> u16 {
-        match width {
-            0 => 0,
-            1 => a,
-            2 => a.max(b),
-            3 => a.max(b).max(c),
-            _ => a.max(b).max(c).max(d),
-        }
+    fn look(_table: u16, operands: &[u16]) -> u16 {
+        largest(&operands[..operands.len().min(4)])
     }
 }

@@ -22,7 +22,7 @@ pub trait WireValue: Copy {
     fn register(self) -> Self
         ensures { result ≡ ops.register self };
 
-    // A look-up of the first `width` operands.
-    fn look(table: u16, width: u8, a: Self, b: Self, c: Self, d: Self) -> Self
-        ensures { result ≡ ops.look table (take width (a ∷ b ∷ c ∷ d ∷ [])) };
+    // A look-up of the operands, of which the first four count.
+    fn look(table: u16, operands: &[Self]) -> Self
+        ensures { result ≡ ops.look table (take 4 operands.now) };
 }
