@@ -1,5 +1,5 @@
 -- The nine kinds of cell, what drives a wire through each, and which cells may drive a wire.
-use Rattle.std.specs.Prelude.{ℕ, ◌<◌, cond, [], ◌∷◌, Ok, Err, Result, nat_lt, slice_index_or}
+use Rattle.std.specs.Prelude.{ℕ, ◌<◌, cond, List, [], ◌∷◌, Ok, Err, Result, nat_lt, slice_index_or}
 use Rattle.netlist.specs.declared.cell.Kind.{Kind}
 use Rattle.netlist.specs.declared.cell.UnknownKind.{UnknownKind}
 use Rattle.netlist.specs.declared.cell.Kind.TheVariants.{Mask, Not, And, Xor, Reg, Look1, Look2, Look3, Look4}
@@ -32,6 +32,10 @@ arity Look1 = 1
 arity Look2 = 2
 arity Look3 = 3
 arity Look4 = 4
+
+-- the operands of a cell, used or not
+abbrev pub operand_list : Cell → List ℕ
+operand_list x = x.a ∷ x.b ∷ x.c ∷ x.d ∷ []
 
 -- the number of a kind, and the kind of a number
 abbrev pub kind_number : Kind → ℕ

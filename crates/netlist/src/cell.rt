@@ -1,6 +1,6 @@
 // The cells that drive wires.
-ghost use Rattle.std.specs.Prelude.{◌≡◌, ◌<◌, [], ◌∷◌, Decides};
-ghost use Rattle.netlist.specs.Cells.{arity, table_limit, operand_limit, kind_number, decoded, gate_of, Fits};
+ghost use Rattle.std.specs.Prelude.{◌≡◌, Decides};
+ghost use Rattle.netlist.specs.Cells.{arity, table_limit, operand_limit, operand_list, kind_number, decoded, gate_of, Fits};
 
 use std::error::Error;
 use std::fmt;
@@ -137,7 +137,7 @@ impl Cell {
 
     // Its operands, and zero for those that its kind does not have.
     pub fn operands(&self) -> [u16; 4]
-        ensures { result ≡ self.now.a ∷ self.now.b ∷ self.now.c ∷ self.now.d ∷ [] }
+        ensures { result ≡ operand_list self.now }
     {
         [self.a, self.b, self.c, self.d]
     }

@@ -1,5 +1,5 @@
 // The one traversal: from the first wire to the last, for whatever a wire carries.
-ghost use Rattle.std.specs.Prelude.{◌≡◌, ℕ, ◌+◌, ◌-◌, ◌*◌, ◌<◌, ◌≤◌, ◌++◌, length, take, drop, slice_index_or};
+ghost use Rattle.std.specs.Prelude.{◌≡◌, ◌-◌, ◌*◌, ◌<◌, ◌≤◌, ◌++◌, length, take, drop, slice_index_or};
 ghost use Rattle.netlist.specs.Circuit.{carried, more_fresh, mask_count};
 ghost use Rattle.netlist.specs.Cells.{driver, Fits, no_cell};
 ghost use Rattle.netlist.specs.Nets.{net_wires, circuit};
@@ -9,57 +9,21 @@ use netlist::cell::{Cell, Kind};
 use netlist::netlist::Netlist;
 use value::wire_value::WireValue;
 
-// The number of fresh wires after a cell, if there were `k` before it.
-fn fresh_after(x: Cell, k: usize) -> usize
-    requires { k ≤ 4096 }
-    ensures fresh { result ≡ more_fresh (driver x) k }
-    ensures bound { result ≤ k + 1 }
-{
-    match x.kind {
-        Kind::Mask => k + 1,
-        _ => k,
-    }
-}
-
-// The value given at `i`, or none past the last.
-fn given_or_none<V: WireValue>(given: &[V], i: usize) -> V
-    ensures { result ≡ slice_index_or given.now i V.ops.none }
-{
-    if i < given.len() { given[i] } else { V::none() }
-}
-
-// What a cell makes of the values below it; `k` fresh wires come before it.
-fn drive<V: WireValue>(x: Cell, below: &[V], given: &[V], k: usize) -> V
+// What a cell makes of the values below it; a mask takes the next of the fresh values, and none past the last.
+fn drive<V: WireValue>(x: Cell, below: &[V], fresh: &mut &[V]) -> V
     requires { Fits (length below.now) x }
-    ensures { result ≡ carried (given_values V.ops given.now) (driver x) k below.now }
+    ensures value { result ≡ carried (given_values V.ops fresh.old.now) (driver x) 0 below.now }
+    ensures fresh { fresh.new.now ≡ drop (more_fresh (driver x) 0) fresh.old.now }
 {
     match x.kind {
-        Kind::Mask => given_or_none(given, k),
+        Kind::Mask => fresh.split_off_first().copied().unwrap_or(V::none()),
         Kind::Not => below[usize::from(x.a)].invert(),
         Kind::And => below[usize::from(x.a)].both(below[usize::from(x.b)]),
         Kind::Xor => below[usize::from(x.a)].differ(below[usize::from(x.b)]),
         Kind::Reg => below[usize::from(x.a)].register(),
-        Kind::Look1 => {
-            let a = below[usize::from(x.a)];
-            V::look(x.table, 1, a, a, a, a)
-        }
-        Kind::Look2 => {
-            let a = below[usize::from(x.a)];
-            let b = below[usize::from(x.b)];
-            V::look(x.table, 2, a, b, a, a)
-        }
-        Kind::Look3 => {
-            let a = below[usize::from(x.a)];
-            let b = below[usize::from(x.b)];
-            let c = below[usize::from(x.c)];
-            V::look(x.table, 3, a, b, c, a)
-        }
-        Kind::Look4 => {
-            let a = below[usize::from(x.a)];
-            let b = below[usize::from(x.b)];
-            let c = below[usize::from(x.c)];
-            let d = below[usize::from(x.d)];
-            V::look(x.table, 4, a, b, c, d)
+        Kind::Look1 | Kind::Look2 | Kind::Look3 | Kind::Look4 => {
+            let operands = x.operands();
+            V::look(x.table, &operands[..usize::from(x.kind.operands())], below)
         }
     }
 }
@@ -70,10 +34,7 @@ pub fn cell_of<N: Netlist>(netlist: &N, wire: usize) -> Cell
     requires within { wire < net_wires (N.net netlist.now) }
     ensures { result ≡ slice_index_or (N.net netlist.now).cells (wire - 2 * (N.net netlist.now).inputs) no_cell }
 {
-    match netlist.cell(wire) {
-        Some(x) => x,
-        None => unreachable(),
-    }
+    netlist.cell(wire).unwrap()
 }
 
 // How many of the cells are masks.
@@ -81,32 +42,10 @@ pub fn masks<N: Netlist>(netlist: &N) -> usize
     ensures value { result ≡ mask_count (circuit (N.net netlist.now)) }
     ensures few { result ≤ 4096 }
 {
-    let first = 2 * netlist.inputs();
-    let mut k = 0;
-    for wire in first..netlist.wires() {
-        k = fresh_after(cell_of(netlist, wire), k);
-    }
-    k
-}
-
-// The value of the next wire, number `wire`, and the number of fresh wires after it.
-fn next_value<N: Netlist, V: WireValue>(
-    netlist: &N,
-    wire: usize,
-    given: &[V],
-    k: usize,
-    out: &[V],
-) -> (V, usize)
-    requires past_shares { 2 * (N.net netlist.now).inputs ≤ wire }
-    requires within { wire < net_wires (N.net netlist.now) }
-    requires room { net_wires (N.net netlist.now) ≤ length out.now }
-    requires few { k ≤ 4096 }
-    ensures value { result.0 ≡ carried (given_values V.ops given.now) (driver (slice_index_or (N.net netlist.now).cells (wire - 2 * (N.net netlist.now).inputs) no_cell)) k (take wire out.now) }
-    ensures fresh { result.1 ≡ more_fresh (driver (slice_index_or (N.net netlist.now).cells (wire - 2 * (N.net netlist.now).inputs) no_cell)) k }
-    ensures bound { result.1 ≤ k + 1 }
-{
-    let x = cell_of(netlist, wire);
-    (drive(x, &out[0..wire], given, k), fresh_after(x, k))
+    (0..netlist.wires())
+        .filter_map(|wire| netlist.cell(wire))
+        .filter(|cell| matches!(cell.kind, Kind::Mask))
+        .count()
 }
 
 // The values of the shares.
@@ -114,8 +53,8 @@ fn carry_shares<V: WireValue>(shares: usize, given: &[V], out: &mut [V])
     requires { shares ≤ length out.old }
     ensures { out.new ≡ filled shares V.ops.none given.now ++ drop shares out.old }
 {
-    for i in 0..shares {
-        out[i] = given_or_none(given, i);
+    for (i, v) in out[..shares].iter_mut().enumerate() {
+        *v = given.get(i).copied().unwrap_or(V::none());
     }
 }
 
@@ -126,11 +65,9 @@ fn carry_cells<N: Netlist, V: WireValue>(netlist: &N, given: &[V], out: &mut [V]
     ensures { out.new ≡ carried_from V.ops (circuit (N.net netlist.now)) given.now ++ drop (net_wires (N.net netlist.now)) out.old }
 {
     let first = 2 * netlist.inputs();
-    let mut k = first;
+    let mut fresh = &given[first.min(given.len())..];
     for wire in first..netlist.wires() {
-        let (v, fresh) = next_value(netlist, wire, given, k, out);
-        out[wire] = v;
-        k = fresh;
+        out[wire] = drive(cell_of(netlist, wire), &out[..wire], &mut fresh);
     }
 }
 

@@ -1,11 +1,9 @@
 -- Bits of numbers, lane by lane.
-use Rattle.std.proofs.Common.{◌≡◌, ℕ, zero, suc, ◌+◌, ◌-◌, ◌*◌, ◌/◌, ◌%◌, ◌^◌, ◌<◌, ◌≤◌, Bool, true, false, cond, eqb, List, length, take, get_or, fold, max, min, pow_mono, [], ◌∷◌, map, sym, refl, ap, ◌∙◌, subst, ⊎_elim, mod-eq_of_lt, add_comm, mul_left_comm, div-one, arith}
+use Rattle.std.proofs.Common.{◌≡◌, ℕ, zero, suc, ◌+◌, ◌-◌, ◌*◌, ◌/◌, ◌%◌, ◌^◌, ◌<◌, ◌≤◌, Bool, true, false, cond, eqb, List, length, take, get_or, fold, max, pow_mono, [], ◌∷◌, map, sym, refl, ap, ◌∙◌, subst, ⊎_elim, mod-eq_of_lt, add_comm, mul_left_comm, div-one, arith}
 use native.Mathlib.Nat.{pow-succ', div_self, zero-div}
 use lib.Bits.{bit_and, bit_xor}
 use Rattle.std.proofs.lemmas.Nat.{and_shr, xor_shr, and_mod, xor_mod, mod_below, pow_pos, pow_below, and_mask, shr-shr, shr_split, field_of, mod-pow-add, mod-mul-add, div_below, mul-le, shr_high, mod_low}
 use Rattle.std.proofs.lemmas.Bool.{cases_lt}
-use Rattle.std.proofs.Math.Nat.{min_comm}
-use Rattle.std.proofs.lemmas.List.{take_min}
 use Rattle.netlist.specs.Circuit.{bit_of, number, bit, largest}
 use Rattle.value.specs.Values.{lane, lanes}
 
@@ -182,22 +180,18 @@ lowest_lane x f e = sym (lowest x) ∙ ap bit_of e ∙ sym (lanes_one f)
 pub lowest_look : (t i r : ℕ) (xs : List ℕ) → r ≡ bit_of (bit t i) → i ≡ number (map (lane 0) xs) → r ≡ lanes 1 (λ j. bit t (number (map (lane j) xs)))
 lowest_look t i r xs e n = e ∙ ap (λ k. bit_of (bit t k)) n ∙ sym (lanes_one (λ j. bit t (number (map (lane j) xs))))
 
--- the number of some operands, by the last of them
-pub number_last : (j k : ℕ) (xs : List ℕ) → length xs ≡ suc k → number (map (lane j) xs) ≡ number (map (lane j) (take k xs)) + bit_of (lane j (get_or xs k 0)) * 2 ^ k
-number_last j k [] e = absurd (omega arith)
-number_last j zero (x ∷ []) e = omega arith
-number_last j zero (x ∷ y ∷ ys) e = absurd (omega arith)
-number_last j (suc k) (x ∷ xs) e =
-    let more = number_last j k xs (omega arith) in
-    let twice : bit_of (lane j (get_or xs k 0)) * 2 ^ suc k ≡ 2 * (bit_of (lane j (get_or xs k 0)) * 2 ^ k) =
-    ap (λ n. bit_of (lane j (get_or xs k 0)) * n) (pow-succ' 2 k) ∙ mul_left_comm _ 2 (2 ^ k) in
+-- the number that some wires carry, by the last of them
+pub number_last : (g : ℕ → ℕ) (j k : ℕ) (ws : List ℕ) → length ws ≡ suc k → number (map (lane j) (map g ws)) ≡ number (map (lane j) (map g (take k ws))) + bit_of (lane j (g (get_or ws k 0))) * 2 ^ k
+number_last g j k [] e = absurd (omega arith)
+number_last g j zero (w ∷ []) e = omega arith
+number_last g j zero (w ∷ v ∷ ws) e = absurd (omega arith)
+number_last g j (suc k) (w ∷ ws) e =
+    let more = number_last g j k ws (omega arith) in
+    let top = bit_of (lane j (g (get_or ws k 0))) in
+    let twice : top * 2 ^ suc k ≡ 2 * (top * 2 ^ k) = ap (λ n. top * n) (pow-succ' 2 k) ∙ mul_left_comm _ 2 (2 ^ k) in
     omega (arith, more, twice)
 
--- the first four of some operands
-pub first_four : (xs : List ℕ) (n : ℕ) → n ≡ min (length xs) 4 → take 4 xs ≡ take n xs
-first_four xs n e = sym (ap (λ k. take k xs) (e ∙ min_comm (length xs) 4) ∙ take_min 4 xs)
-
--- at most four operands tell bits of a table of sixteen
+-- a few wires tell bits of a table of sixteen
 pub few_bits : (n : ℕ) → n ≤ 4 → 2 ^ n ≤ 16
 few_bits n h = pow_mono h
 
@@ -205,9 +199,9 @@ pub fewer_bits : (n : ℕ) → n ≤ 3 → 2 ^ n ≤ 8
 fewer_bits n h = pow_mono h
 
 -- the largest of some counts, counted on from another
-fold_largest : (a : ℕ) (xs : List ℕ) → fold max a xs ≡ max a (largest xs)
-fold_largest a [] = omega arith
-fold_largest a (x ∷ xs) = fold_largest (max a x) xs ∙ omega arith
+fold_largest : (g : ℕ → ℕ) (a : ℕ) (ws : List ℕ) → fold (λ m w. max m (g w)) a ws ≡ max a (largest (map g ws))
+fold_largest g a [] = omega arith
+fold_largest g a (w ∷ ws) = fold_largest g (max a (g w)) ws ∙ omega arith
 
-pub fold_to_largest : (xs : List ℕ) → fold max 0 xs ≡ largest xs
-fold_to_largest xs = fold_largest 0 xs ∙ omega arith
+pub fold_to_largest : (g : ℕ → ℕ) (ws : List ℕ) → fold (λ m w. max m (g w)) 0 ws ≡ largest (map g ws)
+fold_to_largest g ws = fold_largest g 0 ws ∙ omega arith

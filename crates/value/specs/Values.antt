@@ -1,5 +1,5 @@
 -- The things that a program carries on wires: bits, 64 bits side by side, register counts.
-use Rattle.std.specs.Prelude.{ℕ, zero, suc, ◌+◌, ◌*◌, ◌^◌, min, Bool, List, map}
+use Rattle.std.specs.Prelude.{ℕ, zero, suc, ◌+◌, ◌*◌, ◌^◌, min, Bool, List, map, slice_index_or}
 use Rattle.netlist.specs.Circuit.{bit_of, number, bit, largest}
 
 -- what registers and look-ups make of values, and what a wire carries where nothing is given
@@ -24,3 +24,7 @@ lane_ops n = record { none = 0; register = λ x. x; look = λ t xs. lanes n (λ 
 -- a register count in 16 bits, which stays at the largest of these
 abbrev pub count_ops : Ops ℕ
 count_ops = record { none = 0; register = λ x. min 65535 (x + 1); look = λ t xs. largest xs }
+
+-- what some wires carry, by what all wires carry
+abbrev pub carried_on : {V : Type 0} → V → List V → List ℕ → List V
+carried_on none values wires = map (λ w. slice_index_or values w none) wires

@@ -1,9 +1,9 @@
 // A bit in a byte, of which only the lowest bit counts.
 ghost use Rattle.std.specs.Prelude.{◌≡◌, ◌/◌, ◌%◌, ◌^◌, ◌<◌, ◌≤◌, length, map};
 ghost use Rattle.netlist.specs.Circuit.{bit, bit_of, number};
-ghost use Rattle.value.specs.Values.{lane, lane_ops};
+ghost use Rattle.value.specs.Values.{lane, lane_ops, carried_on};
 
-use crate::wire_value::WireValue;
+use crate::wire_value::{WireValue, first_four, value_on};
 
 // Bit number `i` of a table, of which there are sixteen.
 pub(crate) fn table_bit(table: u16, i: u8) -> u8
@@ -13,15 +13,15 @@ pub(crate) fn table_bit(table: u16, i: u8) -> u8
     ((table >> i) % 2) as u8
 }
 
-// The number whose bits the operands carry, the first of them the lowest.
-fn index(operands: &[u8]) -> u8
-    requires { length operands.now ≤ 4 }
-    ensures value { result ≡ number (map (lane 0) operands.now) }
-    ensures bound { result < 2 ^ length operands.now }
+// The number whose bits the wires carry, the first of them the lowest.
+fn index(wires: &[u16], values: &[u8]) -> u8
+    requires { length wires.now ≤ 4 }
+    ensures value { result ≡ number (map (lane 0) (carried_on 0 values.now wires.now)) }
+    ensures bound { result < 2 ^ length wires.now }
 {
-    match operands {
+    match wires {
         [] => 0,
-        [first, rest @ ..] => first % 2 + 2 * index(rest),
+        [first, rest @ ..] => value_on(*first, values, 0) % 2 + 2 * index(rest, values),
     }
 }
 
@@ -48,7 +48,7 @@ impl WireValue for u8 {
         self
     }
 
-    fn look(table: u16, operands: &[u8]) -> u8 {
-        table_bit(table, index(&operands[..operands.len().min(4)]))
+    fn look(table: u16, wires: &[u16], values: &[u8]) -> u8 {
+        table_bit(table, index(first_four(wires), values))
     }
 }

@@ -1,15 +1,19 @@
 // Register counts.
 ghost use Rattle.std.specs.Prelude.{◌≡◌};
 ghost use Rattle.netlist.specs.Circuit.{largest};
-ghost use Rattle.value.specs.Values.{count_ops};
+ghost use Rattle.value.specs.Values.{count_ops, carried_on};
 
-use crate::wire_value::WireValue;
+use crate::wire_value::{WireValue, first_four, value_on};
 
-// The largest count, and zero where there is none.
-fn largest(counts: &[u16]) -> u16
-    ensures { result ≡ largest counts.now }
+// The largest of what the wires carry, and zero where there is no wire.
+fn largest(wires: &[u16], values: &[u16]) -> u16
+    ensures { result ≡ largest (carried_on 0 values.now wires.now) }
 {
-    counts.iter().copied().max().unwrap_or(0)
+    wires
+        .iter()
+        .map(|wire| value_on(*wire, values, 0))
+        .max()
+        .unwrap_or(0)
 }
 
 impl WireValue for u16 {
@@ -35,7 +39,7 @@ impl WireValue for u16 {
         self.saturating_add(1)
     }
 
-    fn look(_table: u16, operands: &[u16]) -> u16 {
-        largest(&operands[..operands.len().min(4)])
+    fn look(_table: u16, wires: &[u16], values: &[u16]) -> u16 {
+        largest(first_four(wires), values)
     }
 }

@@ -1,9 +1,9 @@
 // 64 bits side by side, one in each lane of a word.
 ghost use Rattle.std.specs.Prelude.{◌≡◌, ℕ, ◌<◌, ◌≤◌, map, length, if◌then◌else◌};
 ghost use Rattle.netlist.specs.Circuit.{bit, number};
-ghost use Rattle.value.specs.Values.{lane, lane_ops};
+ghost use Rattle.value.specs.Values.{lane, lane_ops, carried_on};
 
-use crate::wire_value::WireValue;
+use crate::wire_value::{WireValue, first_four, value_on};
 
 // In each lane `hi` where `x` is set, else `lo`.
 fn pick(x: u64, lo: u64, hi: u64) -> u64
@@ -19,16 +19,17 @@ fn leaf(table: u16) -> u64
     if table % 2 == 1 { u64::MAX } else { 0 }
 }
 
-// In each lane the table's bit at the number that the operands carry there: the last one picks a half of the table.
-fn look_up(table: u16, operands: &[u64]) -> u64
-    requires { length operands.now ≤ 4 }
-    ensures { (j : ℕ) → j < 64 → lane j result ≡ bit table (number (map (lane j) operands.now)) }
+// In each lane the table's bit at the number that the wires carry there: the last one picks a half of the table.
+fn look_up(table: u16, wires: &[u16], values: &[u64]) -> u64
+    requires { length wires.now ≤ 4 }
+    ensures { (j : ℕ) → j < 64 → lane j result ≡ bit table (number (map (lane j) (carried_on 0 values.now wires.now))) }
 {
-    match operands {
+    match wires {
         [] => leaf(table),
         [rest @ .., last] => {
-            let upper = table >> (1u32 << rest.len());
-            pick(*last, look_up(table, rest), look_up(upper, rest))
+            let lower = look_up(table, rest, values);
+            let upper = look_up(table >> (1u32 << rest.len()), rest, values);
+            pick(value_on(*last, values, 0), lower, upper)
         }
     }
 }
@@ -56,7 +57,7 @@ impl WireValue for u64 {
         self
     }
 
-    fn look(table: u16, operands: &[u64]) -> u64 {
-        look_up(table, &operands[..operands.len().min(4)])
+    fn look(table: u16, wires: &[u16], values: &[u64]) -> u64 {
+        look_up(table, first_four(wires), values)
     }
 }

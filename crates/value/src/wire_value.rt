@@ -1,6 +1,6 @@
 // What a wire may carry.
-ghost use Rattle.std.specs.Prelude.{◌≡◌, [], ◌∷◌, take};
-ghost use Rattle.value.specs.Values.{Ops};
+ghost use Rattle.std.specs.Prelude.{◌≡◌, ◌≤◌, [], ◌∷◌, length, take, slice_index_or};
+ghost use Rattle.value.specs.Values.{Ops, carried_on};
 
 pub trait WireValue: Copy {
     // What registers and look-ups make of such values.
@@ -22,7 +22,22 @@ pub trait WireValue: Copy {
     fn register(self) -> Self
         ensures { result ≡ ops.register self };
 
-    // A look-up of the operands, of which the first four count.
-    fn look(table: u16, operands: &[Self]) -> Self
-        ensures { result ≡ ops.look table (take 4 operands.now) };
+    // A look-up of what the wires carry, of which the first four count.
+    fn look(table: u16, wires: &[u16], values: &[Self]) -> Self
+        ensures { result ≡ ops.look table (carried_on ops.none values.now (take 4 wires.now)) };
+}
+
+// What a wire carries; `none` past the last.
+pub(crate) fn value_on<V: Copy>(wire: u16, values: &[V], none: V) -> V
+    ensures { result ≡ slice_index_or values.now wire none }
+{
+    values.get(usize::from(wire)).copied().unwrap_or(none)
+}
+
+// The first four of the wires.
+pub(crate) fn first_four(wires: &[u16]) -> &[u16]
+    ensures few { length result.now ≤ 4 }
+    ensures wires { result.now ≡ take 4 wires.now }
+{
+    wires.get(..4).unwrap_or(wires)
 }

@@ -1,26 +1,17 @@
-use Rattle.std.proofs.Common.{arith}
-use Rattle.traverse.proofs.Walks.{count_start, count_again, count_end}
+use Rattle.std.proofs.Common.{rules, tests, arith}
+use Rattle.std.proofs.lemmas.Iterator.{YieldsList-from_range}
+use Rattle.std.proofs.lemmas.Iterator.Consumers.{YieldsList-at, YieldsList-from_filter, YieldsList-from_filter_map, count_from_yields_List}
+use Rattle.netlist.specs.declared.cell.Cell.{Cell}
+use Rattle.netlist.specs.Nets.{cell_at}
+use Rattle.traverse.proofs.Walks.{is_mask, masks_counted}
 use Rattle.traverse.proofs.walk.masks.Goals as goal
 
-pub loop-wire-init : goal.loop-wire-init
-loop-wire-init g c = count_start (g.N.Netlist.net c.args.netlist.now) _ (omega arith)
-
-pub cell_of-requires : goal.cell_of-requires
-cell_of-requires g c = record { past_shares = omega arith; within = omega arith }
-
-pub fresh_after-k-requires : goal.fresh_after-k-requires
-fresh_after-k-requires g c =
-    let size = (g.N.Netlist.lawful c.args.netlist.now).size in
-    let few = c.loop-wire.invariant.1 in
-    omega arith
-
-pub loop-wire-preserved : goal.loop-wire-preserved
-loop-wire-preserved g c =
-    count_again (g.N.Netlist.net c.args.netlist.now) c.loop-wire.wire c.loop-wire.k _ c.cell_of.result (omega arith) (omega arith)
-    c.cell_of.ensures c.fresh_after-k.ensures.fresh c.fresh_after-k.ensures.bound c.loop-wire.invariant
-
-pub returns : goal.returns
-returns g c =
-    let size = (g.N.Netlist.lawful c.args.netlist.now).size in
-    let few = c.loop-wire.invariant.1 in
-    record { value = count_end (g.N.Netlist.net c.args.netlist.now) c.loop-wire.wire c.loop-wire.k (omega arith) c.loop-wire.invariant; few = omega arith }
+pub returns-clause-value : goal.returns-clause-value
+returns-clause-value g c =
+    let net = g.N.Netlist.net c.args.netlist.now in
+    let w = c.wires.result in
+    masks_counted net _ w c.wires.ensures
+    (count_from_yields_List c.filter.result _ c.count.ensures.ran
+    (YieldsList-from_filter _ (λ (x : Cell). is_mask x.kind)
+    (YieldsList-at c.filter.ensures.source (YieldsList-from_filter_map _ (cell_at net) (YieldsList-from_range 0 w w (cc) (omega arith)) c.filter_map.ensures.closure (λ x r q k. search (rules, tests))))
+    c.filter.ensures.closure (λ x b q k. search (rules, tests))))
