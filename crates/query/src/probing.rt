@@ -1,5 +1,5 @@
 // What a probe sees.
-ghost use Rattle.std.specs.Prelude.{◌≡◌, ℕ, ◌<◌, length, replicate};
+ghost use Rattle.std.specs.Prelude.{◌≡◌, ◌<◌, length};
 ghost use Rattle.netlist.specs.Cells.{driver, Fits};
 ghost use Rattle.netlist.specs.Nets.{circuit, net_wires};
 ghost use Rattle.isolation.specs.Agreeing.{Determines};
@@ -18,42 +18,13 @@ fn hand_on(x: Cell, wire: usize, marks: &mut [u8])
     requires fits { Fits wire x }
     ensures { marks.new ≡ handed_on (driver x) wire marks.old }
 {
-    if marks[wire] != 1 {
+    if marks[wire] != 1 || matches!(x.kind, Kind::Mask | Kind::Reg) {
         return;
     }
-    match x.kind {
-        Kind::Mask | Kind::Reg => {}
-        Kind::Not | Kind::Look1 => {
-            marks[wire] = 0;
-            marks[usize::from(x.a)] = 1;
-        }
-        Kind::And | Kind::Xor | Kind::Look2 => {
-            marks[wire] = 0;
-            marks[usize::from(x.a)] = 1;
-            marks[usize::from(x.b)] = 1;
-        }
-        Kind::Look3 => {
-            marks[wire] = 0;
-            marks[usize::from(x.a)] = 1;
-            marks[usize::from(x.b)] = 1;
-            marks[usize::from(x.c)] = 1;
-        }
-        Kind::Look4 => {
-            marks[wire] = 0;
-            marks[usize::from(x.a)] = 1;
-            marks[usize::from(x.b)] = 1;
-            marks[usize::from(x.c)] = 1;
-            marks[usize::from(x.d)] = 1;
-        }
-    }
-}
-
-// Zero everywhere.
-fn clear(marks: &mut [u8])
-    ensures { marks.new ≡ replicate (length marks.old) 0 }
-{
-    for m in marks.iter_mut() {
-        *m = 0;
+    marks[wire] = 0;
+    let operands = x.operands();
+    for operand in &operands[..usize::from(x.kind.operands())] {
+        marks[usize::from(*operand)] = 1;
     }
 }
 
@@ -63,7 +34,7 @@ fn mark_seen<N: Netlist>(netlist: &N, wire: usize, marks: &mut [u8])
     requires long { length marks.old ≡ net_wires (N.net netlist.now) }
     ensures { marks.new ≡ probe_bytes (circuit (N.net netlist.now)) wire }
 {
-    clear(marks);
+    marks.fill(0);
     marks[wire] = 1;
     let first = 2 * netlist.inputs();
     for w in (first..netlist.wires()).rev() {

@@ -16,7 +16,7 @@ carry-requires g c =
 pub returns : goal.returns
 returns g c =
     let n = g.N.Netlist.net c.args.netlist.now in
-    let size = (g.N.Netlist.lawful c.args.netlist.now).size in
+    let size = (g.met.N.Netlist.lawful c.args.netlist.now).size in
     record {
       answer = c.in_ok-check_room.ensures;
       after =

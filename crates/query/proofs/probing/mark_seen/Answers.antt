@@ -9,9 +9,9 @@ loop-w-init g c = (back_start (g.N.Netlist.net c.args.netlist.now) c.wires-w.res
 pub hand_on-requires : goal.hand_on-requires
 hand_on-requires g c =
     let n = g.N.Netlist.net c.args.netlist.now in
-    let fit = (g.N.Netlist.lawful c.args.netlist.now).fit in
+    let fit = (g.met.N.Netlist.lawful c.args.netlist.now).fit in
     record {
-      within = omega (arith, length-set c.clear.new.marks c.args.wire 1);
+      within = omega (arith, length-set c.fill.new.self c.args.wire 1);
       fits = fits_at n.inputs n.cells (c.loop-w.w - 1) c.cell_of.result fit (omega arith) (omega arith) c.cell_of.ensures;
     }
 
@@ -24,6 +24,6 @@ loop-w-preserved g c = (
 
 pub returns : goal.returns
 returns g c =
-    let fit = (g.N.Netlist.lawful c.args.netlist.now).fit in
+    let fit = (g.met.N.Netlist.lawful c.args.netlist.now).fit in
     back_end (g.N.Netlist.net c.args.netlist.now) c.loop-w.w c.args.wire (length c.args.marks.now) _ c.loop-w.marks fit c.requires.within (omega (arith, c.loop-w.invariant.1)) c.requires.long
-    (ap (λ ms. set ms c.args.wire 1) c.clear.ensures) c.loop-w.invariant.0
+    (ap (λ ms. set ms c.args.wire 1) (c.fill.ensures.after (λ y e. e))) c.loop-w.invariant.0
