@@ -1,16 +1,8 @@
 use Rattle.std.proofs.Common.{◌*◌, ◌++◌, ap, ◌∙◌, arith}
 use Rattle.netlist.specs.Nets.{net_wires, circuit}
 use Rattle.traverse.specs.Carrying.{carried_from}
-use Rattle.traverse.proofs.Walks.{shares_placed, rest_kept}
+use Rattle.traverse.proofs.Walks.{rest_kept}
 use Rattle.traverse.proofs.walk.carry.Goals as goal
-
-pub carry_cells-requires : goal.carry_cells-requires
-carry_cells-requires g c =
-    let p = 2 * (g.N.Netlist.net c.args.netlist.now).inputs in
-    record {
-      room = omega arith;
-      shares = shares_placed (2 * c.inputs.result) p g.V.WireValue.ops.none c.args.given.now c.args.out.now _ (omega arith) c.carry_shares.ensures;
-    }
 
 pub returns : goal.returns
 returns g c =

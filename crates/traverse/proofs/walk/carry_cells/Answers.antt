@@ -4,7 +4,7 @@ use Rattle.netlist.specs.declared.cell.Cell.{Cell}
 use Rattle.netlist.specs.Circuit.{carried, more_fresh}
 use Rattle.netlist.specs.Cells.{driver}
 use Rattle.traverse.specs.Carrying.{given_values}
-use Rattle.traverse.proofs.Walks.{cells_start, cells_again, cells_end, carried_later, left_later, more_by_one}
+use Rattle.traverse.proofs.Walks.{cells_start, cells_again, carried_later, left_later, more_by_one}
 use Rattle.traverse.proofs.walk.carry_cells.Goals as goal
 
 pub loop-wire-init : goal.loop-wire-init
@@ -29,8 +29,3 @@ loop-wire-preserved g c =
       cells_again o net given c.args.out.now c.loop-wire.out c.loop-wire.wire k _ _ (omega arith) (omega arith) (omega arith)
           (value ∙ ap (λ (x : Cell). carried (given_values o given) (driver x) k below) c.cell_of.ensures) (ap (λ (x : Cell). more_fresh (driver x) k) c.cell_of.ensures) (more_by_one d k) c.loop-wire.invariant.2,
     )
-
-pub returns : goal.returns
-returns g c =
-    cells_end g.V.WireValue.ops (g.N.Netlist.net c.args.netlist.now) c.args.given.now c.args.out.now c.loop-wire.out c.loop-wire.wire c.loop-wire.invariant.0
-    (omega arith) (omega arith) c.loop-wire.invariant.2
