@@ -31,9 +31,3 @@ cell_at_own net w l h = cell_at_cell net w l ∙ nth_get_or net.cells (w - 2 * n
 
 pub wires_circuit : (net : Net) → net_wires net ≡ wire_count (circuit net)
 wires_circuit net = ap (λ n. 2 * net.inputs + n) (sym (length-map net.cells driver))
-
--- a cell fits the wire that it drives
-pub fits_at : (p : ℕ) (cells : List Cell) (w : ℕ) (x : Cell) → CellsFit p cells → 2 * p ≤ w → w < 2 * p + length cells → x ≡ get_or cells (w - 2 * p) no_cell → Fits w x
-fits_at p cells w x fit l m e =
-    let n : 2 * p + (w - 2 * p) ≡ w = omega arith in
-    subst (λ i. Fits i x) n (subst (Fits (2 * p + (w - 2 * p))) (sym e) (fit (w - 2 * p) (omega arith)))

@@ -44,19 +44,6 @@ operands_below net fit j d e =
 abbrev pub Followed : Net → ℕ → List ℕ → List ℕ → Type 0
 Followed net w start ms = ms ≡ followed_back (map driver (drop (w - 2 * net.inputs) net.cells)) w start
 
-pub back_start : (net : Net) (w : ℕ) (start : List ℕ) → net_wires net ≤ w → Followed net w start start
-back_start net w start h = sym (ap (λ cs. followed_back (map driver cs) w start) (drop_all (w - 2 * net.inputs) net.cells (omega arith)))
-
-pub back_again : (net : Net) (w v : ℕ) (start ms after : List ℕ) (x : Cell) → w ≡ suc v → 2 * net.inputs ≤ v → v < net_wires net → x ≡ get_or net.cells (v - 2 * net.inputs) no_cell
-    → after ≡ handed_on (driver x) v ms → Followed net w start ms → Followed net v start after
-back_again net w v start ms after x n l m ex ea h =
-    let j = v - 2 * net.inputs in
-    let i : w - 2 * net.inputs ≡ j + 1 = omega arith in
-    let here : drop j net.cells ≡ get_or net.cells j no_cell ∷ drop (j + 1) net.cells = drop_more net.cells j no_cell (omega arith) in
-    ea ∙ ap (λ (y : Cell). handed_on (driver y) v ms) ex
-    ∙ ap (handed_on (driver (get_or net.cells j no_cell)) v) (h ∙ ap (λ k. followed_back (map driver (drop k net.cells)) w start) i ∙ ap (λ k. followed_back (map driver (drop (j + 1) net.cells)) k start) n)
-    ∙ sym (ap (λ cs. followed_back (map driver cs) v start) here)
-
 pub back_end : (net : Net) (w wire long : ℕ) (start ms : List ℕ) → CellsFit net.inputs net.cells → wire < net_wires net → w ≡ 2 * net.inputs → long ≡ net_wires net
     → start ≡ set (replicate long 0) wire 1 → Followed net w start ms → ms ≡ probe_bytes (circuit net) wire
 back_end net w wire long start ms fit within n size e h =

@@ -5,32 +5,6 @@ use Rattle.fault.specs.declared.NetlistFault.TheVariants.{Bit, Given, Memory, Wi
 use Rattle.netlist.specs.Circuit.{Circuit, share_count, wire_count, mask_count}
 use Rattle.query.specs.Answers.{Answer, and_then, room_answer, given_answer, bits_answer, wire_answer}
 
-pub room_short : (needed there : ℕ) → there < needed → Err (Memory needed) ≡ room_answer needed there
-room_short needed there h = rw (lt-ltb there needed h)
-
-pub room_enough : (needed there : ℕ) → needed ≤ there → Ok tt ≡ room_answer needed there
-room_enough needed there h = rw (le-ltb there needed h)
-
-pub wire_there : (c : Circuit) (w : ℕ) → w < wire_count c → ◌≡◌ {A = Answer} (Ok tt) (wire_answer c w)
-wire_there c w h = rw (lt-ltb w (wire_count c) h)
-
-pub wire_past : (c : Circuit) (w : ℕ) → wire_count c ≤ w → Err (Wire w) ≡ wire_answer c w
-wire_past c w h = rw (le-ltb w (wire_count c) h)
-
--- the test of the bytes, from the i-th on
-pub bits_here : (given : List ℕ) (i : ℕ) → i < length given → 1 < get_or given i 0 → bits_answer i (drop i given) ≡ Err (Bit i)
-bits_here given i l h =
-    ap (bits_answer i) (drop_more given i 0 l) ∙ ap (λ b. cond b (Err (Bit i)) (bits_answer (suc i) (drop (i + 1) given))) (lt-ltb 1 (get_or given i 0) h)
-
-pub bits_next : (given : List ℕ) (i : ℕ) → i < length given → get_or given i 0 ≤ 1 → bits_answer i (drop i given) ≡ bits_answer (i + 1) (drop (i + 1) given)
-bits_next given i l h =
-    let n : suc i ≡ i + 1 = omega arith in
-    ap (bits_answer i) (drop_more given i 0 l) ∙ ap (λ b. cond b (Err (Bit i)) (bits_answer (suc i) (drop (i + 1) given))) (le-ltb 1 (get_or given i 0) h)
-    ∙ ap (λ k. bits_answer k (drop (i + 1) given)) n
-
-pub bits_end : (given : List ℕ) (i : ℕ) → length given ≤ i → bits_answer i (drop i given) ≡ Ok tt
-bits_end given i l = ap (bits_answer i) (drop_all i given l)
-
 -- where no byte is refused, each is a bit
 pub bits_below : (given : List ℕ) (i : ℕ) → bits_answer i given ≡ Ok tt → (k : ℕ) → get_or given k 0 < 2
 bits_below [] i e k = omega arith

@@ -44,9 +44,6 @@ module _ {V : Type 0} where
         drop_write out before i v h.1,
       )
 
-  pub shares_end : (i n : ℕ) (z : V) (given out : List V) → i ≡ n → length out ≡ n → take i out ≡ filled i z given → out ≡ filled n z given
-  shares_end i n z given out e l h = sym (take_all i out (omega arith)) ∙ h ∙ ap (λ k. filled k z given) e
-
   -- k of the values given are taken: what is left gives the same, and so does what is left after one driver more
   pub carried_later : (o : Ops V) (given : List V) (d : Driver) (k : ℕ) (vs : List V) → carried (given_values o (drop k given)) d 0 vs ≡ carried (given_values o given) d k vs
   carried_later o given Driver.fresh k vs = get_or-drop k given 0 o.none ∙ ap (λ i. get_or given i o.none) (add-zero k)
@@ -97,19 +94,6 @@ module _ {V : Type 0} where
         omega (arith, h.2),
         length-set out w v ∙ h.3,
       )
-
-  pub cells_end : (o : Ops V) (net : Net) (given before out : List V) (w k : ℕ) → net_wires net ≤ w → w ≤ net_wires net
-      → Kept o net given before w k out → out ≡ carried_from o (circuit net) given ++ drop (net_wires net) before
-  cells_end o net given before out w k l m h =
-      let e : w ≡ net_wires net = omega arith in
-      let none : drop (w - 2 * net.inputs) net.cells ≡ [] = drop_all (w - 2 * net.inputs) net.cells (omega arith) in
-      let front : take w out ≡ carried_from o (circuit net) given = sym (ap (λ cs. carry (given_values o given) (map driver cs) k (take w out)) none) ∙ h.0 in
-      sym (take-append-drop w out) ∙ ap (λ xs. xs ++ drop w out) front ∙ ap (λ xs. carried_from o (circuit net) given ++ xs) (h.1 ∙ ap (λ i. drop i before) e)
-
-  -- the shares are in place, and nothing past the last wire has changed
-  pub shares_placed : (n p : ℕ) (z : V) (given out mid : List V) → n ≡ p → mid ≡ filled n z given ++ drop n out → take p mid ≡ filled p z given
-  shares_placed n p z given out mid e h =
-      ap (take p) (h ∙ ap (λ m. filled m z given ++ drop m out) e) ∙ take_at (filled p z given) (drop p out) p (length_filled p z given)
 
   pub rest_kept : (n p w : ℕ) (z : V) (given out mid : List V) → n ≡ p → p ≤ w → mid ≡ filled n z given ++ drop n out → drop w mid ≡ drop w out
   rest_kept n p w z given out mid e l h =

@@ -75,14 +75,6 @@ ones_lane j l = ap (λ d. eqb d 1) (ones_digit j l)
 pub zero_lane : (j : ℕ) → lane j 0 ≡ false
 zero_lane j = ap (λ n. eqb (n % 2) 1) (zero-div (2 ^ j))
 
-pub bit_of_one : (b : Bool) → bit_of b ≡ 1 → b ≡ true
-bit_of_one true e = refl
-bit_of_one false e = absurd (omega arith)
-
-pub bit_of_other : (b : Bool) → ¬ (bit_of b ≡ 1) → b ≡ false
-bit_of_other true n = absurd (n refl)
-bit_of_other false n = refl
-
 pub not_lane : (j x : ℕ) → j < 64 → lane j (bit_xor x 18446744073709551615) ≡ bit 1 (number (lane j x ∷ []))
 not_lane j x l =
     ap (λ d. eqb d 1) (digit_xor j x 18446744073709551615 ∙ ap (bit_xor (digit j x)) (ones_digit j l))
@@ -96,10 +88,6 @@ bit_shift t i s e true h = let n : s + i ≡ e = omega arith in ap (λ k. eqb (k
 -- the two halves of a table, picked by one more operand
 pub pick_half : (t i s e : ℕ) (b lo hi r : Bool) → r ≡ cond b hi lo → lo ≡ bit t i → hi ≡ bit (t / 2 ^ s) i → e ≡ i + bit_of b * s → r ≡ bit t e
 pick_half t i s e b lo hi r p l h n = p ∙ ap (λ x. cond b hi x) l ∙ ap (λ x. cond b x (bit t i)) h ∙ bit_shift t i s e b n
-
-pub pick_leaf : (t : ℕ) (b lo hi r : Bool) → r ≡ cond b hi lo → lo ≡ bit t 0 → hi ≡ bit t 1 → r ≡ bit t (number (b ∷ []))
-pick_leaf t true lo hi r p l h = p ∙ h
-pick_leaf t false lo hi r p l h = p ∙ l
 
 pub lanes_ext : (n : ℕ) (f g : ℕ → Bool) → ((j : ℕ) → j < n → f j ≡ g j) → lanes n f ≡ lanes n g
 unfolding lanes
@@ -190,10 +178,6 @@ number_last g j (suc k) (w ∷ ws) e =
     let top = bit_of (lane j (g (get_or ws k 0))) in
     let twice : top * 2 ^ suc k ≡ 2 * (top * 2 ^ k) = ap (λ n. top * n) (pow-succ' 2 k) ∙ mul_left_comm _ 2 (2 ^ k) in
     omega (arith, more, twice)
-
--- a few wires tell bits of a table of sixteen
-pub few_bits : (n : ℕ) → n ≤ 4 → 2 ^ n ≤ 16
-few_bits n h = pow_mono h
 
 pub fewer_bits : (n : ℕ) → n ≤ 3 → 2 ^ n ≤ 8
 fewer_bits n h = pow_mono h
