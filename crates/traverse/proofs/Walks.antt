@@ -1,15 +1,10 @@
 -- The steps of the traversal, for any operations.
-use Rattle.std.proofs.Common.{◌≡◌, ℕ, zero, suc, Bool, true, false, cond, filter, Some, ◌+◌, ◌-◌, ◌*◌, ◌<◌, ◌≤◌, List, [], ◌∷◌, ◌++◌, map, length, get_or, take, drop, set, sym, refl, ap, ◌∙◌, add-zero, add-one, arith, length-set, get_or-drop, take_all}
-use Rattle.std.proofs.lemmas.List.{drop_more, drop-drop, drop_all, drop-set-lt, take_more_set, take-append-drop, take_at}
+use Rattle.std.proofs.Common.{◌≡◌, ℕ, zero, suc, ◌+◌, ◌-◌, ◌*◌, ◌<◌, ◌≤◌, List, [], ◌∷◌, ◌++◌, map, length, get_or, take, drop, set, sym, refl, ap, ◌∙◌, add-zero, add-one, arith, length-set, get_or-drop}
+use Rattle.std.proofs.lemmas.List.{drop_more, drop-drop, drop-set-lt, take_more_set}
 use Rattle.std.proofs.lemmas.Slice.{drop-append-drop}
-use Rattle.std.specs.List.{filter_map, cons_option, range_with_len}
-use Rattle.netlist.specs.declared.cell.Kind.{Kind}
-use Rattle.netlist.specs.declared.cell.Kind.TheVariants.{Mask, Not, And, Xor, Reg, Look1, Look2, Look3, Look4}
-use Rattle.netlist.specs.declared.cell.Cell.{Cell}
 use Rattle.netlist.specs.Circuit.{Driver, stored, looked, carry, carried, more_fresh, fresh_after, mask_count}
-use Rattle.netlist.specs.Cells.{driver_of, driver, no_cell}
-use Rattle.netlist.specs.Nets.{Net, net_wires, circuit, cell_at}
-use Rattle.netlist.proofs.Places.{cell_at_share, cell_at_own}
+use Rattle.netlist.specs.Cells.{driver, no_cell}
+use Rattle.netlist.specs.Nets.{Net, net_wires, circuit}
 use Rattle.value.specs.Values.{Ops}
 use Rattle.traverse.specs.Carrying.{given_values, filled, carried_from}
 
@@ -99,71 +94,6 @@ module _ {V : Type 0} where
   rest_kept n p w z given out mid e l h =
       ap (drop w) (h ∙ ap (λ m. filled m z given ++ drop m out) e) ∙ drop-append-drop p out (filled p z given) w l (length_filled p z given)
 
--- whether a cell is a mask
-abbrev pub is_mask : Kind → Bool
-is_mask Mask = true
-is_mask Not = false
-is_mask And = false
-is_mask Xor = false
-is_mask Reg = false
-is_mask Look1 = false
-is_mask Look2 = false
-is_mask Look3 = false
-is_mask Look4 = false
-
-one_more : (i : Kind) (t a b c d k : ℕ) → more_fresh (driver_of i t a b c d) k ≡ cond (is_mask i) (suc k) k
-one_more Mask t a b c d k = refl
-one_more Not t a b c d k = refl
-one_more And t a b c d k = refl
-one_more Xor t a b c d k = refl
-one_more Reg t a b c d k = refl
-one_more Look1 t a b c d k = refl
-one_more Look2 t a b c d k = refl
-one_more Look3 t a b c d k = refl
-one_more Look4 t a b c d k = refl
-
-masks_after : (cells : List Cell) (k : ℕ) → length (filter (λ (x : Cell). is_mask x.kind) cells) + k ≡ fresh_after (map driver cells) k
-masks_after [] k = omega arith
-masks_after (x ∷ xs) k = ap (λ n. length n + k) (here (is_mask x.kind) refl) ∙ there (is_mask x.kind) refl (masks_after xs)
-  where
-    ms : List Cell
-    ms = filter (λ (x : Cell). is_mask x.kind) xs
-
-    here : (b : Bool) → is_mask x.kind ≡ b → filter (λ (x : Cell). is_mask x.kind) (x ∷ xs) ≡ cond b (x ∷ ms) ms
-    here b e = ap (λ b. cond b (x ∷ ms) ms) e
-
-    there : (b : Bool) → is_mask x.kind ≡ b → ((n : ℕ) → length ms + n ≡ fresh_after (map driver xs) n) → length (cond b (x ∷ ms) ms) + k ≡ fresh_after (map driver xs) (more_fresh (driver x) k)
-    there true e tail =
-        let more : more_fresh (driver x) k ≡ suc k = one_more x.kind x.table x.a x.b x.c x.d k ∙ ap (λ b. cond b (suc k) k) e in
-        rw more (omega (arith, tail (suc k)))
-    there false e tail =
-        let same : more_fresh (driver x) k ≡ k = one_more x.kind x.table x.a x.b x.c x.d k ∙ ap (λ b. cond b (suc k) k) e in
-        rw same (tail k)
-
--- the shares have no cell
-past_shares : (net : Net) (n a w m : ℕ) → a + n ≡ 2 * net.inputs → w ≡ n + m → filter_map (cell_at net) (range_with_len a w) ≡ filter_map (cell_at net) (range_with_len (2 * net.inputs) m)
-past_shares net zero a w m h e =
-    let first : a ≡ 2 * net.inputs = omega arith in
-    let many : w ≡ m = omega arith in
-    ap (λ i. filter_map (cell_at net) (range_with_len i w)) first ∙ ap (λ i. filter_map (cell_at net) (range_with_len (2 * net.inputs) i)) many
-past_shares net (suc n) a zero m h e = absurd (omega arith)
-past_shares net (suc n) a (suc w) m h e =
-    ap (λ o. cons_option o (filter_map (cell_at net) (range_with_len (a + 1) w))) (sym (cell_at_share net a (omega arith))) ∙ past_shares net n (a + 1) w m (omega arith) (omega arith)
-
-cells_from : (net : Net) (n j a : ℕ) → j + n ≡ length net.cells → a ≡ 2 * net.inputs + j → filter_map (cell_at net) (range_with_len a n) ≡ drop j net.cells
-cells_from net zero j a h e = sym (drop_all j net.cells (omega arith))
-cells_from net (suc n) j a h e =
-    let own = cell_at_own net a (omega arith) (omega arith) in
-    let at : a - 2 * net.inputs ≡ j = omega arith in
-    ap (λ o. cons_option o (filter_map (cell_at net) (range_with_len (a + 1) n))) (own ∙ ap (λ i. Some (get_or net.cells i no_cell)) at)
-    ∙ ap (λ xs. get_or net.cells j no_cell ∷ xs) (cells_from net n (j + 1) (a + 1) (omega arith) (omega arith)) ∙ sym (drop_more net.cells j no_cell (omega arith))
-
--- all cells, wire by wire
-cells_by_wire : (net : Net) (w : ℕ) → w ≡ net_wires net → filter_map (cell_at net) (range_with_len 0 w) ≡ net.cells
-cells_by_wire net w e =
-    past_shares net (2 * net.inputs) 0 w (length net.cells) (omega arith) e ∙ cells_from net (length net.cells) 0 (2 * net.inputs) (omega arith) (omega arith)
-
-pub masks_counted : (net : Net) (n w : ℕ) → w ≡ net_wires net → n ≡ length (filter (λ (x : Cell). is_mask x.kind) (filter_map (cell_at net) (range_with_len 0 w))) → n ≡ mask_count (circuit net)
-masks_counted net n w e h =
-    let all : n ≡ length (filter (λ (x : Cell). is_mask x.kind) net.cells) = h ∙ ap (λ xs. length (filter (λ (x : Cell). is_mask x.kind) xs)) (cells_by_wire net w e) in
-    omega (arith, masks_after net.cells 0)
+-- what counting the masks keeps: w wires are done, k of them are masks
+abbrev pub Counted : Net → ℕ → ℕ → Type 0
+Counted net w k = (fresh_after (map driver (drop (w - 2 * net.inputs) net.cells)) k ≡ mask_count (circuit net)) × (k ≤ w)

@@ -42,10 +42,14 @@ pub fn masks<N: Netlist>(netlist: &N) -> usize
     ensures value { result ≡ mask_count (circuit (N.net netlist.now)) }
     ensures few { result ≤ 4096 }
 {
-    (0..netlist.wires())
-        .filter_map(|wire| netlist.cell(wire))
-        .filter(|cell| matches!(cell.kind, Kind::Mask))
-        .count()
+    let mut count = 0;
+    // A chain of `filter_map`, `filter` and `count` takes ten times as many instructions as settling.
+    for wire in 2 * netlist.inputs()..netlist.wires() {
+        if matches!(cell_of(netlist, wire).kind, Kind::Mask) {
+            count += 1;
+        }
+    }
+    count
 }
 
 // The values of the shares.
