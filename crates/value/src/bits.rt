@@ -19,10 +19,11 @@ fn index(wires: &[u16], values: &[u8]) -> u8
     ensures value { result ≡ number (map (lane 0) (carried_on 0 values.now wires.now)) }
     ensures bound { result < 2 ^ length wires.now }
 {
-    match wires {
-        [] => 0,
-        [first, rest @ ..] => value_on(*first, values, 0) % 2 + 2 * index(rest, values),
+    let mut number = 0;
+    for (i, wire) in wires.iter().enumerate() {
+        number += (value_on(*wire, values, 0) % 2) << i;
     }
+    number
 }
 
 impl WireValue for u8 {
