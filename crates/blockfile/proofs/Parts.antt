@@ -1,7 +1,8 @@
 -- A part of the bytes, by its places in all of them.
 use Rattle.std.proofs.Common.{◌≡◌, ℕ, suc, ◌+◌, ◌<◌, ◌≤◌, List, length, get_or, take, drop, ap, ◌∙◌, add-zero, add-suc, arith, length-drop}
 use Rattle.std.proofs.lemmas.List.{get_or-take, get_or-drop, length-take-le}
-use Rattle.blockfile.specs.Reading.{kind_of, pair_at, cell_from}
+use Rattle.netlist.specs.Cells.{kind_of}
+use Rattle.blockfile.specs.Reading.{pair_at, cell_from}
 
 pub get_or_part : (bs : List ℕ) (at size i : ℕ) → i < size → get_or (take size (drop at bs)) i 0 ≡ get_or bs (at + i) 0
 get_or_part bs at size i h = get_or-take size (drop at bs) i 0 h ∙ get_or-drop at bs i 0
