@@ -21,20 +21,12 @@ accepts : (r : Result Whole FieldFault) (u : Unit {0}) → Ok u ≡ forget r →
 accepts (Ok b) u e = refl
 accepts (Err f) u e = absurd (err_ok f u (sym e))
 
-refuses : (r : Result Whole FieldFault) (f : FieldFault) → Err f ≡ forget r → or_identity r ≡ identity_block
-refuses (Ok b) f e = absurd (err_ok f tt e)
-refuses (Err g) f e = refl
-
 given : (r : Result Whole FieldFault) → is_ok r ≡ true → r ≡ Ok (or_identity r)
 given (Ok b) e = refl
 given (Err f) e = absurd (let z : ◌≡◌ {A = ℕ} 0 1 = cc in omega arith)
 
 pub accepted : (bytes : List ℕ) (u : Unit {0}) → Ok u ≡ file_answer bytes → is_ok (block_read bytes) ≡ true
 accepted bytes = accepts (block_read bytes)
-
-pub refused : (bytes : List ℕ) (f : FieldFault) → Err f ≡ file_answer bytes → block_in bytes ≡ identity_block
-unfolding block_in
-refused bytes = refuses (block_read bytes)
 
 pub accepted_read : (bytes : List ℕ) → is_ok (block_read bytes) ≡ true → block_read bytes ≡ Ok (block_in bytes)
 unfolding block_in
@@ -92,11 +84,6 @@ accepted_layout bytes h = laid_out bytes (block_in bytes) (found_in bytes (block
 pub counted : (len body m k size : ℕ) → body ≡ 8 + size → len ≡ 11 + size + 4 * m + 14 * k → (len - body - 3 - 4 * m) / 14 ≡ k
 counted len body m k size eb el =
     let e : len - body - 3 - 4 * m ≡ k * 14 + 0 = omega arith in ap (λ n. n / 14) e ∙ div-mul-add k 14 0 (omega arith)
-
--- an entry, a cell and a pair of wires, by their places
-pub entry_there : (bytes : List ℕ) (b : Whole) (a : ℕ) → Layout bytes b → a < 2 ^ b.table.n → length b.table.entries ≡ 2 ^ b.table.n → Some (get_or bytes (8 + a) 0) ≡ nth b.table.entries a
-entry_there bytes b a lay h whole =
-    ap Some (sym (get_or_part bytes 8 (2 ^ b.table.n) a h) ∙ ap (λ es. get_or es a 0) lay.entries) ∙ sym (nth_get_or b.table.entries a 0 (omega arith))
 
 pub cell_there : (bytes : List ℕ) (b : Whole) (w place : ℕ) → Layout bytes b → 2 * b.table.n ≤ w → w < net_wires (net_part b) → place ≡ 8 + 2 ^ b.table.n + 14 * (w - 2 * b.table.n) + 3
     → cell_in (take 11 (drop place bytes)) ≡ cell_at (net_part b) w

@@ -1,10 +1,9 @@
 -- The answers of the checks, part by part.
-use Rattle.std.proofs.Common.{◌≡◌, ℕ, suc, ◌+◌, ◌-◌, ◌*◌, ◌<◌, ◌≤◌, Bool, true, false, cond, ◌&&◌, eqb, ltb, List, [], ◌∷◌, length, get_or, Ok, Err, Result, sym, refl, ap, ◌∙◌, arith, eqb-true}
+use Rattle.std.proofs.Common.{◌≡◌, ℕ, suc, ◌+◌, ◌-◌, ◌*◌, ◌≤◌, Bool, true, false, cond, ◌&&◌, eqb, ltb, List, [], ◌∷◌, length, get_or, Ok, Err, Result, sym, refl, ap, ◌∙◌, arith, eqb-true}
 use Rattle.fault.specs.declared.FieldFault.{FieldFault}
 use Rattle.fault.specs.declared.FieldFault.TheVariants.{Trailing}
-use Rattle.blockfile.specs.Reading.{and_then, opened, in_bounds, cell_from, cell_bounds, pair_at, pairs_from, pair_bounds, ended, outputs_read, body_read}
+use Rattle.blockfile.specs.Reading.{and_then, opened, in_bounds, cell_from, cell_bounds, pairs_from, pair_bounds, ended, outputs_read, body_read}
 use Rattle.blockfile.specs.Answers.{Answer, forget}
-use Rattle.blockfile.proofs.Steps.{err_ok}
 use Rattle.blockfile.proofs.Bodies.{a_cell, the_outputs}
 
 module _ {A B : Type 0} where
@@ -68,38 +67,21 @@ module _ (total first m from : ℕ) (all : List ℕ) (at w : ℕ) (rest : List �
       → Err f ≡ forget (body_read total total from first m all)
   outputs_cut f size due s o = let t = opens 4 (4 * m) ∙ ap (λ n. opened (at + length rest) at 4 n rest) (sym s) ∙ o in outputs_left (Err f) due (rw t refl)
 
-  pub outputs_out : (f : FieldFault) (size place : ℕ) (payload behind : List ℕ) → eqb (get_or rest 0 0) 3 && ltb w 4096 ≡ false → size ≡ 4 * m → opened (at + length rest) at 4 size rest ≡ Ok (payload, behind)
-      → place ≡ at + 3 → Err f ≡ in_bounds (pair_bounds w place (pairs_from m 0 payload)) → Err f ≡ forget (body_read total total from first m all)
-  outputs_out f size place payload behind due s o e b =
+  pub outputs_out : (f : FieldFault) (size place count : ℕ) (payload behind : List ℕ) → eqb (get_or rest 0 0) 3 && ltb w 4096 ≡ false → size ≡ 4 * m → opened (at + length rest) at 4 size rest ≡ Ok (payload, behind)
+      → place ≡ at + 3 → count ≡ m → Err f ≡ in_bounds (pair_bounds w place (pairs_from count 0 payload)) → Err f ≡ forget (body_read total total from first m all)
+  outputs_out f size place count payload behind due s o e n b =
       let t = opens 4 (4 * m) ∙ ap (λ n. opened (at + length rest) at 4 n rest) (sym s) ∙ o in
-      let b2 = sym b in
+      let b2 = ap (λ i. in_bounds (pair_bounds w place (pairs_from i 0 payload))) (sym n) ∙ sym b in
       outputs_left (Err f) due (rw (t, ← e, b2) refl)
 
-  pub outputs_end : (r : Answer) (size place next : ℕ) (payload behind : List ℕ) (u : Unit {0}) → eqb (get_or rest 0 0) 3 && ltb w 4096 ≡ false → size ≡ 4 * m
-      → opened (at + length rest) at 4 size rest ≡ Ok (payload, behind) → place ≡ at + 3 → Ok u ≡ in_bounds (pair_bounds w place (pairs_from m 0 payload)) → next ≡ at + 3 + size
+  pub outputs_end : (r : Answer) (size place next count : ℕ) (payload behind : List ℕ) (u : Unit {0}) → eqb (get_or rest 0 0) 3 && ltb w 4096 ≡ false → size ≡ 4 * m
+      → opened (at + length rest) at 4 size rest ≡ Ok (payload, behind) → place ≡ at + 3 → count ≡ m → Ok u ≡ in_bounds (pair_bounds w place (pairs_from count 0 payload)) → next ≡ at + 3 + size
       → r ≡ ended next behind → r ≡ forget (body_read total total from first m all)
-  outputs_end r size place next payload behind u due s o e b n h =
+  outputs_end r size place next count payload behind u due s o e i b n h =
       let t = opens 4 (4 * m) ∙ ap (λ n. opened (at + length rest) at 4 n rest) (sym s) ∙ o in
-      let b2 = sym b in
+      let b2 = ap (λ j. in_bounds (pair_bounds w place (pairs_from j 0 payload))) (sym i) ∙ sym b in
       let n2 : place + 4 * m ≡ next = omega arith in
       outputs_left r due (h ∙ sym (rw (t, ← e, b2, n2) (ends_so next behind (pairs_from m 0 payload))))
-
--- one test after another
-pub test_passed : (place : ℕ) (holds : Bool) (u : Unit {0}) → Ok u ≡ in_bounds ((place, holds) ∷ []) → holds ≡ true
-test_passed place true u e = refl
-test_passed place false u e = absurd (err_ok _ _ (sym e))
-
--- one pair of wires more
-pub pair_read : (w place m c x y : ℕ) (bs : List ℕ) (u v : Unit {0}) → c < m → x ≡ pair_at bs (4 * c) → y ≡ pair_at bs (4 * c + 2) → Ok u ≡ in_bounds ((place + 4 * c, ltb x w) ∷ [])
-    → Ok v ≡ in_bounds ((place + 4 * c + 2, ltb y w) ∷ [])
-    → in_bounds (pair_bounds w (place + 4 * c) (pairs_from (m - c) (4 * c) bs)) ≡ in_bounds (pair_bounds w (place + 4 * (c + 1)) (pairs_from (m - (c + 1)) (4 * (c + 1)) bs))
-pair_read w place m c x y bs u v h ex ey p q =
-    let left : m - c ≡ suc (m - (c + 1)) = omega arith in
-    let i : 4 * c + 4 ≡ 4 * (c + 1) = omega arith in
-    let j : place + 4 * c + 4 ≡ place + 4 * (c + 1) = omega arith in
-    let a : ltb (pair_at bs (4 * c)) w ≡ true = ap (λ n. ltb n w) (sym ex) ∙ test_passed _ (ltb x w) u p in
-    let b : ltb (pair_at bs (4 * c + 2)) w ≡ true = ap (λ n. ltb n w) (sym ey) ∙ test_passed _ (ltb y w) v q in
-    ap (λ n. in_bounds (pair_bounds w (place + 4 * c) (pairs_from n (4 * c) bs))) left ∙ rw (a, b, i, j) refl
 
 pub ended_here : (place : ℕ) (rest : List ℕ) → true ≡ eqb (length rest) 0 → Ok tt ≡ ended place rest
 ended_here place [] e = refl

@@ -11,5 +11,6 @@ pub mod Parts
 pub mod Accepted
 pub mod Placing
 pub mod Items
+pub mod Wires
 pub mod Written
 pub mod Views

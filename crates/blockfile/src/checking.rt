@@ -1,13 +1,13 @@
 // Whether bytes are a block's file.
-ghost use Rattle.std.specs.Prelude.{◌≡◌, ◌+◌, ◌*◌, ◌^◌, ◌&&◌, ◌==◌, ◌<◌, ◌≤◌, length, nat_lt, slice_index};
+ghost use Rattle.std.specs.Prelude.{◌≡◌, ◌+◌, ◌*◌, ◌/◌, ◌%◌, ◌^◌, ◌&&◌, ◌==◌, ◌<◌, ◌≤◌, length, nat_lt, slice_index};
 ghost use Rattle.blockfile.specs.Parts.{file_size};
 ghost use Rattle.blockfile.specs.Reading.{in_bounds, one_to_four, entry_bounds, cell_bounds, pairs_from, pair_bounds, body_read};
 ghost use Rattle.blockfile.specs.Answers.{forget, file_answer};
 ghost use Rattle.blockfile.specs.Laws.{ReadIsWritten, ReadIsLawful, OneAnswerEach};
 
 use crate::fields::{
-    CELL, CELL_SIZE, ENTRIES, INPUTS_PLACE, OUTPUTS, OUTPUTS_PLACE, SIZES, pair, power_of_two,
-    read_cell, within,
+    CELL, CELL_SIZE, ENTRIES, INPUTS_PLACE, OUTPUTS, OUTPUTS_PLACE, SIZES, power_of_two, read_cell,
+    within,
 };
 use crate::part::Part;
 use fault::FieldFault;
@@ -47,18 +47,15 @@ fn check_cell(cell: Part<'_>, wire: usize) -> Result<(), FieldFault>
     within(place + 9, usize::from(x.d) < x.kind.operand_limit(wire, 3))
 }
 
-// The wires of `m` outputs, each below `wires`.
-fn check_outputs(outputs: Part<'_>, wires: usize, m: u8) -> Result<(), FieldFault>
-    requires { length outputs.bytes.now ≡ 4 * m }
-    ensures { result ≡ in_bounds (pair_bounds wires outputs.entry.place (pairs_from m 0 outputs.entry.bytes.now)) }
+// The wires of the outputs, two for each, all below `wires`.
+fn check_outputs(outputs: Part<'_>, wires: usize) -> Result<(), FieldFault>
+    requires { length outputs.bytes.now % 4 ≡ 0 }
+    ensures { result ≡ in_bounds (pair_bounds wires outputs.entry.place (pairs_from (length outputs.entry.bytes.now / 4) 0 outputs.entry.bytes.now)) }
 {
-    for c in 0..usize::from(m) {
-        let place = outputs.place + 4 * c;
-        within(place, usize::from(pair(outputs.bytes, 4 * c)) < wires)?;
-        within(
-            place + 2,
-            usize::from(pair(outputs.bytes, 4 * c + 2)) < wires,
-        )?;
+    let (numbers, _) = outputs.bytes.as_chunks::<2>();
+    for (k, number) in numbers.iter().enumerate() {
+        let wire = u16::from_be_bytes(*number);
+        within(outputs.place + 2 * k, usize::from(wire) < wires)?;
     }
     Ok(())
 }
@@ -83,7 +80,7 @@ fn check_body(mut rest: Part<'_>, n: u8, m: u8) -> Result<(), FieldFault>
         wire += 1;
     }
     let outputs = rest.open(OUTPUTS, 4 * usize::from(m))?;
-    check_outputs(outputs.payload, wire, m)?;
+    check_outputs(outputs.payload, wire)?;
     if outputs.rest.bytes.is_empty() {
         Ok(())
     } else {

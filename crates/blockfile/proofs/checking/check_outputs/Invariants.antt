@@ -1,6 +1,7 @@
-use Rattle.std.proofs.Common.{◌≡◌, ◌+◌, ◌-◌, ◌*◌}
-use Rattle.blockfile.specs.Reading.{in_bounds, pair_bounds, pairs_from}
+use Rattle.std.proofs.Common.{◌≡◌, ◌+◌, ◌*◌, drop}
+use Rattle.blockfile.specs.Reading.{in_bounds}
+use Rattle.blockfile.proofs.Wires.{wire_bounds}
 use Rattle.blockfile.proofs.checking.check_outputs.Given as goal
 
-abbrev pub invariant-loop-c : goal.invariant-loop-c
-invariant-loop-c l = in_bounds (pair_bounds l.wires l.outputs.place (pairs_from l.m 0 l.outputs.bytes.now)) ≡ in_bounds (pair_bounds l.wires (l.outputs.place + 4 * l.c) (pairs_from (l.m - l.c) (4 * l.c) l.outputs.bytes.now))
+abbrev pub invariant-loop-k : goal.invariant-loop-k
+invariant-loop-k l = in_bounds (wire_bounds l.wires l.outputs.place l.numbers) ≡ in_bounds (wire_bounds l.wires (l.outputs.place + 2 * l.k) (drop l.k l.numbers))
