@@ -1,5 +1,5 @@
 -- Bytes that are put item by item: entries, cells, pairs of wires.
-use Rattle.std.proofs.Common.{◌≡◌, ℕ, ◌+◌, ◌-◌, ◌*◌, ◌<◌, ◌≤◌, List, [], ◌∷◌, ◌++◌, length, get_or, take, set, Some, sym, refl, ap, ◌∙◌, mul-zero, mul-suc, arith, length-append}
+use Rattle.std.proofs.Common.{◌≡◌, ℕ, ◌+◌, ◌-◌, ◌*◌, ◌<◌, ◌≤◌, List, [], ◌∷◌, ◌++◌, length, get_or, take, Some, sym, refl, ap, ◌∙◌, mul-zero, mul-suc, arith, length-append}
 use Rattle.std.specs.List.{flat_map}
 use Rattle.std.proofs.lemmas.List.{take_more, take_all, length-take-le, flat_map_more}
 use Rattle.netlist.specs.declared.cell.Cell.{Cell}
@@ -9,20 +9,13 @@ use Rattle.netlist.proofs.Places.{cell_at_own}
 use Rattle.block.specs.Blocks.{Whole, net_part}
 use Rattle.blockfile.specs.Format.{two, field, cell_bytes, cell_fields, pair_bytes}
 use Rattle.blockfile.specs.Writing.{put_at}
-use Rattle.blockfile.proofs.Placing.{put_one, put_more}
-
-abbrev pub entry_item : ℕ → List ℕ
-entry_item e = e ∷ []
+use Rattle.blockfile.proofs.Placing.{put_more}
 
 abbrev pub cell_item : Cell → List ℕ
 cell_item x = field 3 (cell_bytes x)
 
 abbrev pub pair_item : ℕ × ℕ → List ℕ
 pair_item p = two p.0 ++ two p.1
-
-pub entries_joined : (es : List ℕ) → flat_map entry_item es ≡ es
-entries_joined [] = refl
-entries_joined (e ∷ es) = ap (λ l. e ∷ l) (entries_joined es)
 
 pub cells_joined : (xs : List Cell) → flat_map cell_item xs ≡ cell_fields xs
 cells_joined [] = refl
@@ -54,7 +47,3 @@ pub cell_numbered : (net : Net) (b : Whole) (first k : ℕ) → net ≡ net_part
 cell_numbered net b first k part e h =
     let i : first + k - 2 * b.table.n ≡ k = omega arith in
     ap (λ n. cell_at n (first + k)) part ∙ cell_at_own (net_part b) (first + k) (omega arith) (omega arith) ∙ ap (λ j. Some (get_or b.cells j no_cell)) i
-
--- one entry, k being the number of those before it
-pub entry_put : (at k e : ℕ) (out : List ℕ) → at + k < length out → set out (at + k) e ≡ put_at (at + 1 * k) (entry_item e) out
-entry_put at k e out h = let place : at + k ≡ at + 1 * k = omega arith in put_one (at + k) e out h ∙ ap (λ i. put_at i (e ∷ []) out) place

@@ -16,7 +16,7 @@ use netlist::netlist::MOST_WIRES;
 fn is_size(x: u8) -> bool
     ensures { result ≡ one_to_four x }
 {
-    1 <= x && x <= 4
+    (1..=4).contains(&x)
 }
 
 // The entries of a table of `m` outputs.

@@ -30,8 +30,9 @@ fn put_entries<B: Block>(source: &B, out: &mut [u8], at: usize)
     requires { at + length (B.block source.now).table.entries ≤ length out.old }
     ensures { out.new ≡ put_at at (B.block source.now).table.entries out.old }
 {
-    for k in 0..entry_count(source) {
-        out[at + k] = source.entry(k).unwrap();
+    let size = entry_count(source);
+    for (argument, entry) in out[at..at + size].iter_mut().enumerate() {
+        *entry = source.entry(argument).unwrap();
     }
 }
 
@@ -54,7 +55,7 @@ fn put_table<B: Block>(source: &B, out: &mut [u8])
     put_entries(source, out, ENTRIES_PLACE);
 }
 
-// The fields of the cells.
+// The fields of the cells, each put at its place: the library says nothing of a slice whose chunks were written.
 fn put_cells<B: Block>(source: &B, out: &mut [u8], at: usize)
     requires { at + 14 * length (B.block source.now).cells ≤ length out.old }
     ensures { out.new ≡ put_at at (cell_fields (B.block source.now).cells) out.old }
@@ -66,7 +67,7 @@ fn put_cells<B: Block>(source: &B, out: &mut [u8], at: usize)
     }
 }
 
-// The field of the outputs.
+// The field of the outputs, each put at its place for the same reason.
 fn put_outputs<B: Block>(source: &B, out: &mut [u8], at: usize)
     requires { at + 3 + 4 * length (B.block source.now).outputs ≤ length out.old }
     ensures { out.new ≡ put_at at (field 4 (pair_bytes (B.block source.now).outputs)) out.old }

@@ -1,14 +1,8 @@
-use Rattle.std.proofs.Common.{◌+◌, ◌*◌, Some, sym, ap, ◌∙◌, arith}
-use Rattle.netlist.proofs.Places.{nth_past}
+use Rattle.std.proofs.Common.{◌+◌, ◌*◌, Some, ap, ◌∙◌, arith}
 use Rattle.blockfile.specs.Reading.{pair_at}
 use Rattle.blockfile.specs.Viewing.{block_in}
 use Rattle.blockfile.proofs.Accepted.{accepted_layout, pair_there}
 use Rattle.blockfile.proofs.file_view.viewing.FileViewBlock.output.Goals as goal
-
-pub returns-then-c-outputs : goal.returns-then-c-outputs
-returns-then-c-outputs c =
-    let v = c.args.self.now in
-    sym (nth_past (block_in v.bytes.now).outputs c.args.c (omega (arith, v.whole.complete)))
 
 pub pair-requires : goal.pair-requires
 pair-requires c = let v = c.args.self.now in let l = accepted_layout v.bytes.now v.accepted in omega arith
