@@ -55,25 +55,27 @@ fn put_table<B: Block>(source: &B, out: &mut [u8])
     put_entries(source, out, ENTRIES_PLACE);
 }
 
-// The fields of the cells, each put at its place: the library says nothing of a slice whose chunks were written.
+// The fields of the cells.
 fn put_cells<B: Block>(source: &B, out: &mut [u8], at: usize)
     requires { at + 14 * length (B.block source.now).cells ≤ length out.old }
     ensures { out.new ≡ put_at at (cell_fields (B.block source.now).cells) out.old }
 {
     let first = 2 * source.inputs();
+    // Tried over chunks of the memory; the proof did not close, as no contract says what a slice holds once its chunks are written.
     for k in 0..cell_count(source) {
         let x = source.cell(first + k).unwrap();
         put(out, at + CELL_FIELD * k, &cell_field(x));
     }
 }
 
-// The field of the outputs, each put at its place for the same reason.
+// The field of the outputs.
 fn put_outputs<B: Block>(source: &B, out: &mut [u8], at: usize)
     requires { at + 3 + 4 * length (B.block source.now).outputs ≤ length out.old }
     ensures { out.new ≡ put_at at (field 4 (pair_bytes (B.block source.now).outputs)) out.old }
 {
     let m = source.outputs();
     put(out, at, &header(OUTPUTS, 4 * m as u16));
+    // Not over chunks either, as for the cells.
     for c in 0..m {
         let (zeroth, first) = source.output(c).unwrap();
         put(out, at + HEADER + 4 * c, &wires(zeroth, first));
