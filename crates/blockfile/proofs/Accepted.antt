@@ -1,5 +1,5 @@
 -- Bytes that are accepted, and where the parts of their block stand.
-use Rattle.std.proofs.Common.{◌≡◌, ℕ, ◌+◌, ◌-◌, ◌*◌, ◌/◌, ◌^◌, ◌<◌, ◌≤◌, true, List, [], ◌∷◌, length, get_or, take, drop, is_ok, Some, Ok, Err, Result, sym, refl, ap, ◌∙◌, arith, length-append}
+use Rattle.std.proofs.Common.{◌≡◌, ℕ, ◌+◌, ◌-◌, ◌*◌, ◌/◌, ◌^◌, ◌<◌, ◌≤◌, true, List, length, get_or, take, drop, is_ok, Some, Ok, Err, Result, sym, refl, ap, ◌∙◌, arith, length-append}
 use Rattle.std.proofs.lemmas.List.{drop-drop}
 use Rattle.std.proofs.lemmas.Nat.{div-mul-add}
 use Rattle.fault.specs.declared.FieldFault.{FieldFault}
@@ -9,6 +9,7 @@ use Rattle.netlist.proofs.Places.{nth_get_or, cell_at_own}
 use Rattle.block.specs.Blocks.{Whole, LawfulBlock, net_part}
 use Rattle.blockfile.specs.Reading.{block_read, cell_in, pair_at, pairs_from}
 use Rattle.blockfile.specs.Answers.{forget, file_answer}
+use Rattle.blockfile.specs.Examples.{identity_file}
 use Rattle.blockfile.specs.Viewing.{identity_block, or_identity, block_in}
 use Rattle.blockfile.proofs.Steps.{err_ok}
 use Rattle.blockfile.proofs.Opening.{opened_drop, opened_payload}
@@ -36,7 +37,7 @@ pub accepted_lawful : (bytes : List ℕ) → is_ok (block_read bytes) ≡ true �
 accepted_lawful bytes h = read_is_lawful bytes (block_in bytes) (accepted_read bytes h)
 
 -- the identity's file
-pub identity_read : block_in (1 ∷ 0 ∷ 2 ∷ 1 ∷ 1 ∷ 2 ∷ 0 ∷ 2 ∷ 0 ∷ 1 ∷ 4 ∷ 0 ∷ 4 ∷ 0 ∷ 0 ∷ 0 ∷ 1 ∷ []) ≡ identity_block
+pub identity_read : block_in identity_file ≡ identity_block
 unfolding block_in
 identity_read = refl
 
