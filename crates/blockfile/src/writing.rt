@@ -26,20 +26,19 @@ fn cell_count<B: Block>(source: &B) -> usize
 }
 
 // The entries of the table.
-fn put_entries<B: Block>(source: &B, out: &mut [u8], at: usize)
-    requires { at + length (B.block source.now).table.entries ≤ length out.old }
-    ensures { out.new ≡ put_at at (B.block source.now).table.entries out.old }
+fn put_entries<B: Block>(source: &B, out: &mut [u8])
+    requires { length out.old ≡ length (B.block source.now).table.entries }
+    ensures { out.new ≡ (B.block source.now).table.entries }
 {
-    let size = entry_count(source);
-    for (argument, entry) in out[at..at + size].iter_mut().enumerate() {
+    for (argument, entry) in out.iter_mut().enumerate() {
         *entry = source.entry(argument).unwrap();
     }
 }
 
 // The fields of the sizes and of the entries.
 fn put_table<B: Block>(source: &B, out: &mut [u8])
-    requires { 8 + length (B.block source.now).table.entries ≤ length out.old }
-    ensures { out.new ≡ put_at 0 (field 1 ((B.block source.now).table.n ∷ (B.block source.now).table.m ∷ []) ++ field 2 (B.block source.now).table.entries) out.old }
+    requires { length out.old ≡ 8 + length (B.block source.now).table.entries }
+    ensures { out.new ≡ field 1 ((B.block source.now).table.n ∷ (B.block source.now).table.m ∷ []) ++ field 2 (B.block source.now).table.entries }
 {
     put(out, 0, &header(SIZES, 2));
     put(
@@ -52,33 +51,33 @@ fn put_table<B: Block>(source: &B, out: &mut [u8])
         ENTRIES_FIELD,
         &header(ENTRIES, entry_count(source) as u16),
     );
-    put_entries(source, out, ENTRIES_PLACE);
+    put_entries(source, &mut out[ENTRIES_PLACE..]);
 }
 
 // The fields of the cells.
-fn put_cells<B: Block>(source: &B, out: &mut [u8], at: usize)
-    requires { at + 14 * length (B.block source.now).cells ≤ length out.old }
-    ensures { out.new ≡ put_at at (cell_fields (B.block source.now).cells) out.old }
+fn put_cells<B: Block>(source: &B, out: &mut [u8])
+    requires { length out.old ≡ 14 * length (B.block source.now).cells }
+    ensures { out.new ≡ cell_fields (B.block source.now).cells }
 {
     let first = 2 * source.inputs();
     // Tried over chunks of the memory; the proof did not close, as no contract says what a slice holds once its chunks are written.
     for k in 0..cell_count(source) {
         let x = source.cell(first + k).unwrap();
-        put(out, at + CELL_FIELD * k, &cell_field(x));
+        put(out, CELL_FIELD * k, &cell_field(x));
     }
 }
 
 // The field of the outputs.
-fn put_outputs<B: Block>(source: &B, out: &mut [u8], at: usize)
-    requires { at + 3 + 4 * length (B.block source.now).outputs ≤ length out.old }
-    ensures { out.new ≡ put_at at (field 4 (pair_bytes (B.block source.now).outputs)) out.old }
+fn put_outputs<B: Block>(source: &B, out: &mut [u8])
+    requires { length out.old ≡ 3 + 4 * length (B.block source.now).outputs }
+    ensures { out.new ≡ field 4 (pair_bytes (B.block source.now).outputs) }
 {
     let m = source.outputs();
-    put(out, at, &header(OUTPUTS, 4 * m as u16));
+    put(out, 0, &header(OUTPUTS, 4 * m as u16));
     // Not over chunks either, as for the cells.
     for c in 0..m {
         let (zeroth, first) = source.output(c).unwrap();
-        put(out, at + HEADER + 4 * c, &wires(zeroth, first));
+        put(out, HEADER + 4 * c, &wires(zeroth, first));
     }
 }
 
@@ -95,8 +94,8 @@ pub fn write<B: Block>(source: &B, out: &mut [u8]) -> Result<usize, NetlistFault
     if out.len() < needed {
         return Err(NetlistFault::Memory(needed));
     }
-    put_table(source, out);
-    put_cells(source, out, body);
-    put_outputs(source, out, outputs);
+    put_table(source, &mut out[..body]);
+    put_cells(source, &mut out[body..outputs]);
+    put_outputs(source, &mut out[outputs..needed]);
     Ok(needed)
 }
