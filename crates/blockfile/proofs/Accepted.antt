@@ -1,5 +1,5 @@
 -- Bytes that are accepted, and where the parts of their block stand.
-use Rattle.std.proofs.Common.{◌≡◌, ℕ, ◌+◌, ◌-◌, ◌*◌, ◌/◌, ◌^◌, ◌<◌, ◌≤◌, true, List, [], ◌∷◌, length, get_or, take, drop, is_ok, Some, Ok, Err, Result, sym, refl, ap, ◌∙◌, arith, length-append}
+use Rattle.std.proofs.Common.{◌≡◌, ℕ, ◌+◌, ◌-◌, ◌*◌, ◌/◌, ◌^◌, ◌<◌, ◌≤◌, true, List, length, get_or, take, drop, is_ok, Some, Ok, Err, Result, sym, refl, ap, ◌∙◌, arith, length-append}
 use Rattle.std.proofs.lemmas.List.{drop-drop}
 use Rattle.std.proofs.lemmas.Nat.{div-mul-add}
 use Rattle.fault.specs.declared.FieldFault.{FieldFault}
@@ -7,8 +7,9 @@ use Rattle.netlist.specs.Cells.{no_cell}
 use Rattle.netlist.specs.Nets.{nth, cell_at, net_wires}
 use Rattle.netlist.proofs.Places.{nth_get_or, cell_at_own}
 use Rattle.block.specs.Blocks.{Whole, LawfulBlock, net_part}
-use Rattle.blockfile.specs.Reading.{block_read, cell_from, pair_at, pairs_from}
+use Rattle.blockfile.specs.Reading.{block_read, cell_in, pair_at, pairs_from}
 use Rattle.blockfile.specs.Answers.{forget, file_answer}
+use Rattle.blockfile.specs.Examples.{identity_file}
 use Rattle.blockfile.specs.Viewing.{identity_block, or_identity, block_in}
 use Rattle.blockfile.proofs.Steps.{err_ok}
 use Rattle.blockfile.proofs.Opening.{opened_drop, opened_payload}
@@ -21,20 +22,12 @@ accepts : (r : Result Whole FieldFault) (u : Unit {0}) → Ok u ≡ forget r →
 accepts (Ok b) u e = refl
 accepts (Err f) u e = absurd (err_ok f u (sym e))
 
-refuses : (r : Result Whole FieldFault) (f : FieldFault) → Err f ≡ forget r → or_identity r ≡ identity_block
-refuses (Ok b) f e = absurd (err_ok f tt e)
-refuses (Err g) f e = refl
-
 given : (r : Result Whole FieldFault) → is_ok r ≡ true → r ≡ Ok (or_identity r)
 given (Ok b) e = refl
 given (Err f) e = absurd (let z : ◌≡◌ {A = ℕ} 0 1 = cc in omega arith)
 
 pub accepted : (bytes : List ℕ) (u : Unit {0}) → Ok u ≡ file_answer bytes → is_ok (block_read bytes) ≡ true
 accepted bytes = accepts (block_read bytes)
-
-pub refused : (bytes : List ℕ) (f : FieldFault) → Err f ≡ file_answer bytes → block_in bytes ≡ identity_block
-unfolding block_in
-refused bytes = refuses (block_read bytes)
 
 pub accepted_read : (bytes : List ℕ) → is_ok (block_read bytes) ≡ true → block_read bytes ≡ Ok (block_in bytes)
 unfolding block_in
@@ -44,7 +37,7 @@ pub accepted_lawful : (bytes : List ℕ) → is_ok (block_read bytes) ≡ true �
 accepted_lawful bytes h = read_is_lawful bytes (block_in bytes) (accepted_read bytes h)
 
 -- the identity's file
-pub identity_read : block_in (1 ∷ 0 ∷ 2 ∷ 1 ∷ 1 ∷ 2 ∷ 0 ∷ 2 ∷ 0 ∷ 1 ∷ 4 ∷ 0 ∷ 4 ∷ 0 ∷ 0 ∷ 0 ∷ 1 ∷ []) ≡ identity_block
+pub identity_read : block_in identity_file ≡ identity_block
 unfolding block_in
 identity_read = refl
 
@@ -54,7 +47,7 @@ pub record Layout (bytes : List ℕ) (b : Whole) : Type 0 where
   pub outputs : get_or bytes 4 0 ≡ b.table.m
   pub long : length bytes ≡ 11 + 2 ^ b.table.n + 4 * b.table.m + 14 * length b.cells
   pub entries : take (2 ^ b.table.n) (drop 8 bytes) ≡ b.table.entries
-  pub cell : (k : ℕ) → k < length b.cells → get_or b.cells k no_cell ≡ cell_from (take 11 (drop (8 + 2 ^ b.table.n + 14 * k + 3) bytes))
+  pub cell : (k : ℕ) → k < length b.cells → cell_in (take 11 (drop (8 + 2 ^ b.table.n + 14 * k + 3) bytes)) ≡ Some (get_or b.cells k no_cell)
   pub pairs : b.outputs ≡ pairs_from b.table.m 0 (take (4 * b.table.m) (drop (8 + 2 ^ b.table.n + 14 * length b.cells + 3) bytes))
 
 laid_out : (bytes : List ℕ) (b : Whole) → BlockIn bytes b → Layout bytes b
@@ -80,7 +73,7 @@ laid_out bytes b i =
       outputs = sym (get_or_part bytes 3 2 1 (omega arith)) ∙ ap (λ ys. get_or ys 1 0) sizes ∙ sym i.outputs;
       long = omega arith;
       entries = ap (take size) (sym (drop-drop 3 5 bytes)) ∙ ap (λ ys. take size (drop 3 ys)) rest ∙ opened_payload 2 size i.rest b.table.entries i.after i.table;
-      cell = λ k h. body_cell (2 * n) m i.after b.cells b.outputs k h i.body ∙ ap (λ ys. cell_from (take 11 ys)) (behind (14 * k + 3) (8 + size + 14 * k + 3) (omega arith));
+      cell = λ k h. ap (λ ys. cell_in (take 11 ys)) (sym (behind (14 * k + 3) (8 + size + 14 * k + 3) (omega arith))) ∙ body_cell (2 * n) m i.after b.cells b.outputs k h i.body;
       pairs = body_outputs (2 * n) m i.after b.cells b.outputs i.body
           ∙ ap (λ ys. pairs_from m 0 (take (4 * m) ys)) (behind (14 * length b.cells + 3) (8 + size + 14 * length b.cells + 3) (omega arith));
     }
@@ -93,15 +86,10 @@ pub counted : (len body m k size : ℕ) → body ≡ 8 + size → len ≡ 11 + s
 counted len body m k size eb el =
     let e : len - body - 3 - 4 * m ≡ k * 14 + 0 = omega arith in ap (λ n. n / 14) e ∙ div-mul-add k 14 0 (omega arith)
 
--- an entry, a cell and a pair of wires, by their places
-pub entry_there : (bytes : List ℕ) (b : Whole) (a : ℕ) → Layout bytes b → a < 2 ^ b.table.n → length b.table.entries ≡ 2 ^ b.table.n → Some (get_or bytes (8 + a) 0) ≡ nth b.table.entries a
-entry_there bytes b a lay h whole =
-    ap Some (sym (get_or_part bytes 8 (2 ^ b.table.n) a h) ∙ ap (λ es. get_or es a 0) lay.entries) ∙ sym (nth_get_or b.table.entries a 0 (omega arith))
-
 pub cell_there : (bytes : List ℕ) (b : Whole) (w place : ℕ) → Layout bytes b → 2 * b.table.n ≤ w → w < net_wires (net_part b) → place ≡ 8 + 2 ^ b.table.n + 14 * (w - 2 * b.table.n) + 3
-    → Some (cell_from (take 11 (drop place bytes))) ≡ cell_at (net_part b) w
+    → cell_in (take 11 (drop place bytes)) ≡ cell_at (net_part b) w
 cell_there bytes b w place lay l h e =
-    ap (λ p. Some (cell_from (take 11 (drop p bytes)))) e ∙ ap Some (sym (lay.cell (w - 2 * b.table.n) (omega arith))) ∙ sym (cell_at_own (net_part b) w l h)
+    ap (λ p. cell_in (take 11 (drop p bytes))) e ∙ lay.cell (w - 2 * b.table.n) (omega arith) ∙ sym (cell_at_own (net_part b) w l h)
 
 both : (x y x' y' : ℕ) → x ≡ x' → y ≡ y' → ◌≡◌ {A = ℕ × ℕ} (x, y) (x', y')
 both x y x' y' e f = cc

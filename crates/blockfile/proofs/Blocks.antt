@@ -3,6 +3,7 @@ use Rattle.std.proofs.Common.{◌≡◌, ℕ, ◌+◌, ◌*◌, ◌^◌, Bool, �
 use Rattle.fault.specs.declared.FieldFault.{FieldFault}
 use Rattle.netlist.specs.declared.cell.Cell.{Cell}
 use Rattle.block.specs.Blocks.{Table, Whole, LawfulBlock}
+use Rattle.block.specs.Tables.{table_of}
 use Rattle.blockfile.specs.Format.{field, cell_fields, pair_bytes, file_of}
 use Rattle.blockfile.specs.Reading.{and_then, opened, in_bounds, one_to_four, entry_bounds, body_read, block_read}
 use Rattle.blockfile.specs.Laws.{WrittenIsRead, ReadIsWritten, ReadIsLawful, OneFileEach, OneAnswerEach}
@@ -15,9 +16,6 @@ use Rattle.blockfile.proofs.Pairs.{length_pairs}
 -- the tests of the two sizes
 abbrev pub size_bounds : ℕ → ℕ → List (ℕ × Bool)
 size_bounds n m = (3, one_to_four n) ∷ (4, one_to_four m) ∷ []
-
-abbrev pub table_of : ℕ → ℕ → List ℕ → Table
-table_of n m entries = record { n = n; m = m; entries = entries }
 
 abbrev pub whole_of : Table → List Cell → List (ℕ × ℕ) → Whole
 whole_of t cells outputs = record { table = t; cells = cells; outputs = outputs }

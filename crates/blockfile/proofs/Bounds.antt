@@ -1,10 +1,9 @@
 -- Values that are within their bounds: what the tests say, and that they pass.
-use Rattle.std.proofs.Common.{◌≡◌, ℕ, zero, suc, ◌+◌, ◌^◌, ◌<◌, ◌≤◌, Bool, true, false, cond, leb, List, [], ◌∷◌, ◌++◌, length, get_or, drop, Ok, Err, sym, refl, ap, ◌∙◌, arith, ltb-true, lt-ltb, le-leb, leb-true}
+use Rattle.std.proofs.Common.{◌≡◌, ℕ, zero, suc, ◌+◌, ◌^◌, ◌<◌, ◌≤◌, Bool, true, leb, List, [], ◌∷◌, length, get_or, Ok, refl, arith, ltb-true, lt-ltb, le-leb, leb-true}
 use Rattle.std.proofs.lemmas.Bool.{and_parts, and_from}
-use Rattle.std.proofs.lemmas.List.{drop_more}
 use Rattle.fault.specs.declared.FieldFault.TheVariants.{Value}
 use Rattle.netlist.specs.Cells.{Fits}
-use Rattle.blockfile.specs.Reading.{and_then, in_bounds, one_to_four, entry_bounds, cell_from, cell_bounds, pair_bounds}
+use Rattle.blockfile.specs.Reading.{in_bounds, one_to_four, entry_bounds, cell_from, cell_bounds, pair_bounds}
 use Rattle.blockfile.proofs.Steps.{cond_ok}
 
 -- each test passes
@@ -19,20 +18,6 @@ passes (v ∷ vs) e = let p = cond_ok v.1 (in_bounds vs) (Value v.0) tt e in (p.
 pub passed : (vs : List (ℕ × Bool)) → Passes vs → in_bounds vs ≡ Ok tt
 passed [] h = refl
 passed (v ∷ vs) h = rw h.0 (passed vs h.1)
-
--- one test after another
-pub test_passed : (vs : List (ℕ × Bool)) (k : ℕ) → k < length vs → (get_or vs k (0, false)).1 ≡ true → in_bounds (drop (k + 1) vs) ≡ in_bounds (drop k vs)
-test_passed vs k h t = sym (ap in_bounds (drop_more vs k (0, false) h) ∙ rw t)
-
-pub test_failed : (vs : List (ℕ × Bool)) (k : ℕ) → k < length vs → (get_or vs k (0, false)).1 ≡ false → in_bounds (drop k vs) ≡ Err (Value (get_or vs k (0, false)).0)
-test_failed vs k h t = ap in_bounds (drop_more vs k (0, false) h) ∙ rw t
-
-pub in_bounds_append : (us vs : List (ℕ × Bool)) → in_bounds (us ++ vs) ≡ and_then (in_bounds us) (λ _. in_bounds vs)
-in_bounds_append [] vs = refl
-in_bounds_append (u ∷ us) vs = elim u.1 as (λ t. cond t (in_bounds (us ++ vs)) (Err (Value u.0)) ≡ and_then (cond t (in_bounds us) (Err (Value u.0))) (λ _. in_bounds vs)) [
-  | true ↦ in_bounds_append us vs
-  | false ↦ refl
-]
 
 pub one_to_four_is : (x : ℕ) → one_to_four x ≡ true → (1 ≤ x) × (x ≤ 4)
 one_to_four_is x e = let p = and_parts (leb 1 x) (leb x 4) e in (leb-true 1 x p.0, leb-true x 4 p.1)

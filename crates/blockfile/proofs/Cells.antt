@@ -3,8 +3,9 @@ use Rattle.std.proofs.Common.{◌≡◌, ℕ, zero, suc, ◌/◌, ◌%◌, ◌<�
 use Rattle.netlist.specs.declared.cell.Kind.{Kind}
 use Rattle.netlist.specs.declared.cell.Kind.TheVariants.{Mask, Not, And, Xor, Reg, Look1, Look2, Look3, Look4}
 use Rattle.netlist.specs.declared.cell.Cell.{Cell}
-use Rattle.blockfile.specs.Format.{kind_number, cell_bytes}
-use Rattle.blockfile.specs.Reading.{kind_of, pair_at, cell_from}
+use Rattle.netlist.specs.Cells.{kind_number, kind_of}
+use Rattle.blockfile.specs.Format.{cell_bytes}
+use Rattle.blockfile.specs.Reading.{pair_at, cell_from}
 use Rattle.blockfile.specs.Laws.{Bytes}
 use Rattle.blockfile.proofs.Numbers.{pair_of_two, high_of_pair, low_of_pair}
 

@@ -1,5 +1,5 @@
 -- Bytes that are put item by item: entries, cells, pairs of wires.
-use Rattle.std.proofs.Common.{◌≡◌, ℕ, ◌+◌, ◌-◌, ◌*◌, ◌<◌, ◌≤◌, List, [], ◌∷◌, ◌++◌, length, get_or, take, set, Some, sym, refl, ap, ◌∙◌, mul-zero, mul-suc, arith, length-append}
+use Rattle.std.proofs.Common.{◌≡◌, ℕ, ◌+◌, ◌-◌, ◌*◌, ◌<◌, ◌≤◌, List, [], ◌∷◌, ◌++◌, length, get_or, take, Some, sym, refl, ap, ◌∙◌, mul-zero, mul-suc, arith, length-append}
 use Rattle.std.specs.List.{flat_map}
 use Rattle.std.proofs.lemmas.List.{take_more, take_all, length-take-le, flat_map_more}
 use Rattle.netlist.specs.declared.cell.Cell.{Cell}
@@ -9,20 +9,13 @@ use Rattle.netlist.proofs.Places.{cell_at_own}
 use Rattle.block.specs.Blocks.{Whole, net_part}
 use Rattle.blockfile.specs.Format.{two, field, cell_bytes, cell_fields, pair_bytes}
 use Rattle.blockfile.specs.Writing.{put_at}
-use Rattle.blockfile.proofs.Placing.{put_one, put_more}
-
-abbrev pub entry_item : ℕ → List ℕ
-entry_item e = e ∷ []
+use Rattle.blockfile.proofs.Placing.{put_more}
 
 abbrev pub cell_item : Cell → List ℕ
 cell_item x = field 3 (cell_bytes x)
 
 abbrev pub pair_item : ℕ × ℕ → List ℕ
 pair_item p = two p.0 ++ two p.1
-
-pub entries_joined : (es : List ℕ) → flat_map entry_item es ≡ es
-entries_joined [] = refl
-entries_joined (e ∷ es) = ap (λ l. e ∷ l) (entries_joined es)
 
 pub cells_joined : (xs : List Cell) → flat_map cell_item xs ≡ cell_fields xs
 cells_joined [] = refl
@@ -39,11 +32,11 @@ module _ {X : Type 0} (f : X → List ℕ) where
       omega (arith, length-append (f x) (flat_map f xs), fixed x, length_joined size fixed xs, mul-suc size (length xs))
 
   -- one item more, at the place behind those before it
-  pub put_item : (size : ℕ) → ((x : X) → length (f x) ≡ size) → (at k : ℕ) (xs : List X) (d : X) (old out new : List ℕ) → k < length xs → at ≤ length old
-      → out ≡ put_at at (flat_map f (take k xs)) old → new ≡ put_at (at + size * k) (f (get_or xs k d)) out → new ≡ put_at at (flat_map f (take (k + 1) xs)) old
-  put_item size fixed at k xs d old out new h room inv e =
+  pub put_item : (size : ℕ) → ((x : X) → length (f x) ≡ size) → (at k : ℕ) (xs : List X) (d : X) (item old out new : List ℕ) → k < length xs → at ≤ length old
+      → out ≡ put_at at (flat_map f (take k xs)) old → item ≡ f (get_or xs k d) → new ≡ put_at (at + size * k) item out → new ≡ put_at at (flat_map f (take (k + 1) xs)) old
+  put_item size fixed at k xs d item old out new h room inv ei e =
       let l = length_joined size fixed (take k xs) ∙ ap (λ n. size * n) (length-take-le k xs (omega arith)) in
-      put_more at (at + size * k) (flat_map f (take k xs)) (f (get_or xs k d)) old out new room (ap (λ n. at + n) (sym l)) inv e
+      put_more at (at + size * k) (flat_map f (take k xs)) (f (get_or xs k d)) old out new room (ap (λ n. at + n) (sym l)) inv (e ∙ ap (λ ys. put_at (at + size * k) ys out) ei)
       ∙ ap (λ ys. put_at at ys old) (flat_map_more f [] (take k xs) (get_or xs k d) ∙ ap (flat_map f) (sym (take_more xs k d h)))
 
   pub put_all : (at k : ℕ) (xs : List X) (old out : List ℕ) → length xs ≤ k → out ≡ put_at at (flat_map f (take k xs)) old → out ≡ put_at at (flat_map f xs) old
@@ -54,16 +47,3 @@ pub cell_numbered : (net : Net) (b : Whole) (first k : ℕ) → net ≡ net_part
 cell_numbered net b first k part e h =
     let i : first + k - 2 * b.table.n ≡ k = omega arith in
     ap (λ n. cell_at n (first + k)) part ∙ cell_at_own (net_part b) (first + k) (omega arith) (omega arith) ∙ ap (λ j. Some (get_or b.cells j no_cell)) i
-
--- one entry, one cell, one pair, k being the number of those before it
-pub entry_put : (at k e x : ℕ) (out : List ℕ) → at + k < length out → e ≡ x → set out (at + k) e ≡ put_at (at + 1 * k) (entry_item x) out
-entry_put at k e x out h eq =
-    let place : at + k ≡ at + 1 * k = omega arith in
-    put_one (at + k) e out h ∙ ap (λ y. put_at (at + k) (y ∷ []) out) eq ∙ ap (λ i. put_at i (x ∷ []) out) place
-
-pub cell_put : (place : ℕ) (x y : Cell) (out new : List ℕ) → x ≡ y → new ≡ put_at place (cell_item x) out → new ≡ put_at place (cell_item y) out
-cell_put place x y out new eq e = e ∙ ap (λ z. put_at place (cell_item z) out) eq
-
-pub pair_put : (place : ℕ) (p q : ℕ × ℕ) (out mid new : List ℕ) → place ≤ length out → p ≡ q → mid ≡ put_at place (two p.0) out → new ≡ put_at (place + 2) (two p.1) mid
-    → new ≡ put_at place (pair_item q) out
-pair_put place p q out mid new h eq em e = put_more place (place + 2) (two p.0) (two p.1) out mid new h refl em e ∙ ap (λ r. put_at place (pair_item r) out) eq

@@ -6,9 +6,11 @@ pub mod Cells
 pub mod Pairs
 pub mod Bodies
 pub mod Blocks
-pub mod Parts
 pub mod Checks
+pub mod Parts
 pub mod Accepted
 pub mod Placing
 pub mod Items
+pub mod Wires
 pub mod Written
+pub mod Views

@@ -14,3 +14,6 @@ low_of_pair hi lo h = ap (λ n. (n + lo) % 256) (mul_comm 256 hi) ∙ mod-mul-ad
 
 pub two_of_pair : (hi lo : ℕ) → lo < 256 → two (256 * hi + lo) ≡ hi ∷ lo ∷ []
 two_of_pair hi lo h = rw (high_of_pair hi lo h, low_of_pair hi lo h)
+
+pub two_of_bytes : (x : ℕ) → x < 65536 → x / 256 % 256 ∷ x % 256 ∷ [] ≡ two x
+two_of_bytes x h = let e : x / 256 % 256 ≡ x / 256 = omega arith in ap (λ y. y ∷ x % 256 ∷ []) e

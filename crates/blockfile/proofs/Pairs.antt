@@ -20,7 +20,7 @@ from_cons (suc m) i j b bs e =
     let n : suc i + 2 ≡ suc (i + 2) = omega arith in
     rw (e, n) (ap (λ l. (pair_at bs i, pair_at bs (i + 2)) ∷ l) (from_cons m (i + 4) (suc i + 4) b bs (omega arith)))
 
-from_four : (m a b c d : ℕ) (bs : List ℕ) → pairs_from m 4 (a ∷ b ∷ c ∷ d ∷ bs) ≡ pairs_from m 0 bs
+pub from_four : (m a b c d : ℕ) (bs : List ℕ) → pairs_from m 4 (a ∷ b ∷ c ∷ d ∷ bs) ≡ pairs_from m 0 bs
 from_four m a b c d bs = from_cons m 3 4 a (b ∷ c ∷ d ∷ bs) refl ∙ from_cons m 2 3 b (c ∷ d ∷ bs) refl ∙ from_cons m 1 2 c (d ∷ bs) refl ∙ from_cons m 0 1 d bs refl
 
 pub pairs_back : (ps : List (ℕ × ℕ)) → pairs_from (length ps) 0 (pair_bytes ps) ≡ ps

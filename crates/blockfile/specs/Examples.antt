@@ -2,14 +2,11 @@
 use Rattle.std.specs.Prelude.{◌≡◌, ℕ, List, [], ◌∷◌, ◌++◌, Ok, Err}
 use Rattle.fault.specs.declared.FieldFault.{FieldFault}
 use Rattle.fault.specs.declared.FieldFault.TheVariants.{Cut, Tag, Length, Value, Trailing}
-use Rattle.block.specs.Blocks.{Whole}
 use Rattle.blockfile.specs.Format.{file_of}
 use Rattle.blockfile.specs.Answers.{Answer, file_answer}
+use Rattle.blockfile.specs.Viewing.{identity_block}
 
--- one bit that passes through, and its file
-abbrev pub identity_block : Whole
-identity_block = record { table = record { n = 1; m = 1; entries = 0 ∷ 1 ∷ [] }; cells = []; outputs = (0, 1) ∷ [] }
-
+-- the file of one bit that passes through
 abbrev pub identity_file : List ℕ
 identity_file = 1 ∷ 0 ∷ 2 ∷ 1 ∷ 1 ∷ 2 ∷ 0 ∷ 2 ∷ 0 ∷ 1 ∷ 4 ∷ 0 ∷ 4 ∷ 0 ∷ 0 ∷ 0 ∷ 1 ∷ []
 

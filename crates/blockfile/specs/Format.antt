@@ -1,8 +1,7 @@
 -- The file of a block: fields, each with a tag, a length of two bytes and a payload.
 use Rattle.std.specs.Prelude.{ℕ, ◌/◌, ◌%◌, List, [], ◌∷◌, ◌++◌, length}
-use Rattle.netlist.specs.declared.cell.Kind.{Kind}
-use Rattle.netlist.specs.declared.cell.Kind.TheVariants.{Mask, Not, And, Xor, Reg, Look1, Look2, Look3, Look4}
 use Rattle.netlist.specs.declared.cell.Cell.{Cell}
+use Rattle.netlist.specs.Cells.{kind_number}
 use Rattle.block.specs.Blocks.{Whole}
 
 -- a number in two bytes, the high one first
@@ -11,17 +10,6 @@ two x = x / 256 ∷ x % 256 ∷ []
 
 abbrev pub field : ℕ → List ℕ → List ℕ
 field tag payload = tag ∷ (two (length payload) ++ payload)
-
-abbrev pub kind_number : Kind → ℕ
-kind_number Mask = 0
-kind_number Not = 1
-kind_number And = 2
-kind_number Xor = 3
-kind_number Reg = 4
-kind_number Look1 = 5
-kind_number Look2 = 6
-kind_number Look3 = 7
-kind_number Look4 = 8
 
 -- a cell: its kind, its table and its four operands
 abbrev pub cell_bytes : Cell → List ℕ

@@ -2,6 +2,7 @@ pub mod Answers
 pub mod Examples
 pub mod Format
 pub mod Laws
+pub mod Parts
 pub mod Reading
 pub mod Viewing
 pub mod Views

@@ -1,142 +1,105 @@
 // Whether bytes are a block's file.
-ghost use Rattle.std.specs.Prelude.{◌≡◌, ◌+◌, ◌*◌, ◌^◌, ◌≤◌, length, take, drop};
-ghost use Rattle.blockfile.specs.Reading.{in_bounds, one_to_four, entry_bounds};
-ghost use Rattle.blockfile.specs.Answers.{file_answer, sizes_answer, table_answer, cell_due, cell_answer, pairs_answer, outputs_answer, body_answer};
+ghost use Rattle.std.specs.Prelude.{◌≡◌, ◌+◌, ◌*◌, ◌/◌, ◌%◌, ◌^◌, ◌&&◌, ◌==◌, ◌<◌, ◌≤◌, length, nat_lt, slice_index};
+ghost use Rattle.blockfile.specs.Parts.{file_size};
+ghost use Rattle.blockfile.specs.Reading.{in_bounds, one_to_four, entry_bounds, cell_bounds, pairs_from, pair_bounds, body_read};
+ghost use Rattle.blockfile.specs.Answers.{forget, file_answer};
 ghost use Rattle.blockfile.specs.Laws.{ReadIsWritten, ReadIsLawful, OneAnswerEach};
 
 use crate::fields::{
-    CELL, CELL_SIZE, ENTRIES, ENTRIES_FIELD, ENTRIES_PLACE, HEADER, INPUTS_PLACE, OUTPUTS,
-    OUTPUTS_PLACE, SIZES, check_values, open_field, operand_limit, pair, power_of_two, read_cell,
+    CELL, CELL_SIZE, ENTRIES, INPUTS_PLACE, OUTPUTS, OUTPUTS_PLACE, SIZES, power_of_two, read_cell,
+    within,
 };
+use crate::part::Part;
 use fault::FieldFault;
-
-const KINDS: u8 = 9;
-
-const MOST_WIRES: usize = 4096;
+use netlist::netlist::MOST_WIRES;
 
 fn is_size(x: u8) -> bool
     ensures { result ≡ one_to_four x }
 {
-    1 <= x && x <= 4
+    (1..=4).contains(&x)
 }
 
-// The first field.
-fn check_sizes(bytes: &[u8]) -> Result<(), FieldFault>
-    ensures { result ≡ sizes_answer bytes.now }
-{
-    open_field(bytes.len(), 0, SIZES, 2, bytes)?;
-    check_values(&[
-        (INPUTS_PLACE, is_size(bytes[INPUTS_PLACE])),
-        (OUTPUTS_PLACE, is_size(bytes[OUTPUTS_PLACE])),
-    ])
-}
-
-// The entries of a table of `n` inputs and `m` outputs.
-fn check_entries(bytes: &[u8], n: u8, m: u8) -> Result<(), FieldFault>
-    requires inputs { n ≤ 4 }
-    requires outputs { m ≤ 4 }
-    requires room { 8 + 2 ^ n ≤ length bytes.now }
-    ensures { result ≡ in_bounds (entry_bounds m 8 (take (2 ^ n) (drop 8 bytes.now))) }
+// The entries of a table of `m` outputs.
+fn check_entries(entries: Part<'_>, m: u8) -> Result<(), FieldFault>
+    requires { m ≤ 4 }
+    ensures { result ≡ in_bounds (entry_bounds m entries.entry.place entries.entry.bytes.now) }
 {
     let limit = power_of_two(m);
-    for k in 0..power_of_two(n) {
-        if usize::from(bytes[ENTRIES_PLACE + k]) >= limit {
-            return Err(FieldFault::Value(ENTRIES_PLACE + k));
-        }
+    for (k, entry) in entries.bytes.iter().enumerate() {
+        within(entries.place + k, usize::from(*entry) < limit)?;
     }
     Ok(())
 }
 
-// The second field.
-fn check_table(bytes: &[u8], n: u8, m: u8) -> Result<(), FieldFault>
-    requires inputs { n ≤ 4 }
-    requires outputs { m ≤ 4 }
-    requires room { 5 ≤ length bytes.now }
-    ensures { result ≡ table_answer bytes.now n m }
+// The parts of the cell on wire `wire`.
+fn check_cell(cell: Part<'_>, wire: usize) -> Result<(), FieldFault>
+    requires { length cell.bytes.now ≡ 11 }
+    ensures { result ≡ in_bounds (cell_bounds cell.entry.place wire cell.entry.bytes.now) }
 {
-    open_field(
-        bytes.len(),
-        ENTRIES_FIELD,
-        ENTRIES,
-        power_of_two(n),
-        &bytes[ENTRIES_FIELD..],
-    )?;
-    check_entries(bytes, n, m)
+    let place = cell.place;
+    let Some(x) = read_cell(cell.bytes) else {
+        return Err(FieldFault::Value(place));
+    };
+    within(place + 1, u32::from(x.table) < x.kind.table_limit())?;
+    within(place + 3, usize::from(x.a) < x.kind.operand_limit(wire, 0))?;
+    within(place + 5, usize::from(x.b) < x.kind.operand_limit(wire, 1))?;
+    within(place + 7, usize::from(x.c) < x.kind.operand_limit(wire, 2))?;
+    within(place + 9, usize::from(x.d) < x.kind.operand_limit(wire, 3))
 }
 
-// Whether a cell's field is due at place `at`, for wire `wire`.
-fn cell_due(bytes: &[u8], at: usize, wire: usize) -> bool
-    ensures { result ≡ cell_due bytes.now at wire }
+// The wires of the outputs, two for each, all below `wires`.
+fn check_outputs(outputs: Part<'_>, wires: usize) -> Result<(), FieldFault>
+    requires { length outputs.bytes.now % 4 ≡ 0 }
+    ensures { result ≡ in_bounds (pair_bounds wires outputs.entry.place (pairs_from (length outputs.entry.bytes.now / 4) 0 outputs.entry.bytes.now)) }
 {
-    if at >= bytes.len() || wire >= MOST_WIRES {
-        return false;
-    }
-    bytes[at] == CELL
-}
-
-// The field of the cell on wire `wire`.
-fn check_cell(bytes: &[u8], at: usize, wire: usize) -> Result<(), FieldFault>
-    requires { at ≤ length bytes.now }
-    ensures { result ≡ cell_answer bytes.now at wire }
-{
-    open_field(bytes.len(), at, CELL, CELL_SIZE, &bytes[at..])?;
-    let value = at + HEADER;
-    let x = read_cell(bytes, value);
-    let n = x.kind.operands();
-    check_values(&[
-        (value, bytes[value] < KINDS),
-        (value + 1, u32::from(x.table) < x.kind.table_limit()),
-        (value + 3, usize::from(x.a) < operand_limit(wire, 0, n)),
-        (value + 5, usize::from(x.b) < operand_limit(wire, 1, n)),
-        (value + 7, usize::from(x.c) < operand_limit(wire, 2, n)),
-        (value + 9, usize::from(x.d) < operand_limit(wire, 3, n)),
-    ])
-}
-
-// The pairs of `m` outputs, each of wires below `wires`.
-fn check_pairs(bytes: &[u8], at: usize, wires: usize, m: u8) -> Result<(), FieldFault>
-    requires { at + 4 * m ≤ length bytes.now }
-    ensures { result ≡ pairs_answer bytes.now at wires m }
-{
-    for c in 0..usize::from(m) {
-        let place = at + 4 * c;
-        check_values(&[
-            (place, usize::from(pair(bytes, place)) < wires),
-            (place + 2, usize::from(pair(bytes, place + 2)) < wires),
-        ])?;
+    let (numbers, _) = outputs.bytes.as_chunks::<2>();
+    for (k, number) in numbers.iter().enumerate() {
+        let wire = u16::from_be_bytes(*number);
+        within(outputs.place + 2 * k, usize::from(wire) < wires)?;
     }
     Ok(())
 }
 
-// The last field, and that nothing follows it.
-fn check_outputs(bytes: &[u8], at: usize, wires: usize, m: u8) -> Result<(), FieldFault>
-    requires { at ≤ length bytes.now }
-    ensures { result ≡ outputs_answer bytes.now at wires m }
+// Whether a cell's field is due, for wire `wire`.
+fn cell_due(rest: Part<'_>, wire: usize) -> bool
+    ensures { result ≡ (slice_index rest.entry.bytes.now 0 == 3 && nat_lt wire 4096) }
 {
-    let size = 4 * usize::from(m);
-    open_field(bytes.len(), at, OUTPUTS, size, &bytes[at..])?;
-    check_pairs(bytes, at + HEADER, wires, m)?;
-    let end = at + HEADER + size;
-    if end < bytes.len() {
-        return Err(FieldFault::Trailing(end));
-    }
-    Ok(())
+    matches!(rest.bytes, [CELL, ..]) && wire < MOST_WIRES
 }
 
 // The cells of a block with `n` inputs, and its `m` outputs.
-fn check_body(bytes: &[u8], n: u8, m: u8) -> Result<(), FieldFault>
-    requires inputs { n ≤ 4 }
-    requires room { 8 + 2 ^ n ≤ length bytes.now }
-    ensures { result ≡ body_answer bytes.now (8 + 2 ^ n) (2 * n) m }
+fn check_body(mut rest: Part<'_>, n: u8, m: u8) -> Result<(), FieldFault>
+    requires { 8 ≤ rest.place }
+    ensures { result ≡ forget (body_read (file_size rest.entry) (file_size rest.entry) rest.entry.place (2 * n) m rest.entry.bytes.now) }
 {
-    let mut at = ENTRIES_PLACE + power_of_two(n);
     let mut wire = 2 * usize::from(n);
-    while cell_due(bytes, at, wire) {
-        check_cell(bytes, at, wire)?;
-        at += HEADER + CELL_SIZE;
+    while cell_due(rest, wire) {
+        let cell = rest.open(CELL, CELL_SIZE)?;
+        check_cell(cell.payload, wire)?;
+        rest = cell.rest;
         wire += 1;
     }
-    check_outputs(bytes, at, wire, m)
+    let outputs = rest.open(OUTPUTS, 4 * usize::from(m))?;
+    check_outputs(outputs.payload, wire)?;
+    if outputs.rest.bytes.is_empty() {
+        Ok(())
+    } else {
+        Err(FieldFault::Trailing(outputs.rest.place))
+    }
+}
+
+// The fields of a file, one after another.
+fn check_fields(bytes: &[u8]) -> Result<(), FieldFault>
+    ensures { result ≡ file_answer bytes.now }
+{
+    let sizes = Part { place: 0, bytes }.open(SIZES, 2)?;
+    let n = sizes.payload.bytes[0];
+    let m = sizes.payload.bytes[1];
+    within(INPUTS_PLACE, is_size(n))?;
+    within(OUTPUTS_PLACE, is_size(m))?;
+    let entries = sizes.rest.open(ENTRIES, power_of_two(n))?;
+    check_entries(entries.payload, m)?;
+    check_body(entries.rest, n, m)
 }
 
 // Whether the bytes are the file of a block; else the first fault, and its place.
@@ -146,9 +109,5 @@ pub fn check(bytes: &[u8]) -> Result<(), FieldFault>
     ensures lawful { ReadIsLawful }
     ensures one { OneAnswerEach }
 {
-    check_sizes(bytes)?;
-    let n = bytes[INPUTS_PLACE];
-    let m = bytes[OUTPUTS_PLACE];
-    check_table(bytes, n, m)?;
-    check_body(bytes, n, m)
+    check_fields(bytes)
 }

@@ -1,17 +1,15 @@
 // A block's file in the caller's memory.
 ghost use Rattle.std.specs.Prelude.{◌≡◌, true, is_ok};
+ghost use Rattle.block.specs.Blocks.{LawfulBlock};
 ghost use Rattle.blockfile.specs.Reading.{block_read};
-ghost use Rattle.blockfile.specs.Viewing.{block_in, FewSizes, EntriesHold, CellsHold, OutputsHold};
+ghost use Rattle.blockfile.specs.Viewing.{block_in};
 
 pub mod viewing;
 
 // The bytes are an accepted file, and so all bounds hold of its block.
-#[derive(Clone, Copy)]
+#[derive(Clone, Copy, Debug)]
 pub struct FileView<'a> {
     bytes: &'a [u8],
     ghost accepted: { is_ok (block_read bytes.now) ≡ true },
-    ghost sizes: { FewSizes (block_in bytes.now) },
-    ghost entries: { EntriesHold (block_in bytes.now) },
-    ghost cells: { CellsHold (block_in bytes.now) },
-    ghost outputs: { OutputsHold (block_in bytes.now) },
+    ghost whole: { LawfulBlock (block_in bytes.now) },
 }

@@ -5,5 +5,6 @@ pub mod checking;
 pub mod examples;
 mod fields;
 pub mod file_view;
+mod part;
 mod puts;
 pub mod writing;

@@ -1,63 +1,47 @@
-// Putting the parts of a file into memory.
-ghost use Rattle.std.specs.Prelude.{◌≡◌, ◌+◌, ◌≤◌, ◌∷◌, length};
-ghost use Rattle.blockfile.specs.Format.{two, field, kind_number, cell_bytes};
+// The parts of a file as bytes, and putting them into memory.
+ghost use Rattle.std.specs.Prelude.{◌≡◌, ◌+◌, ◌≤◌, ◌∷◌, ◌++◌, length};
+ghost use Rattle.blockfile.specs.Format.{two, field, cell_bytes};
 ghost use Rattle.blockfile.specs.Writing.{put_at};
 
-use crate::fields::{CELL, HEADER};
-use netlist::cell::{Cell, Kind};
+use crate::fields::CELL;
+use netlist::cell::Cell;
 
-// A number in two bytes, the high one first.
-pub(crate) fn put_pair(out: &mut [u8], at: usize, x: u16)
-    requires { at + 2 ≤ length out.old }
-    ensures { out.new ≡ put_at at (two x) out.old }
+// Puts bytes into memory at a place.
+pub(crate) fn put(out: &mut [u8], at: usize, bytes: &[u8])
+    requires { at + length bytes.now ≤ length out.old }
+    ensures { out.new ≡ put_at at bytes.now out.old }
 {
-    out[at] = (x / 256) as u8;
-    out[at + 1] = (x % 256) as u8;
+    out[at..at + bytes.len()].copy_from_slice(bytes);
 }
 
 // The tag and the length of a field.
-pub(crate) fn put_header(out: &mut [u8], at: usize, tag: u8, size: u16)
-    requires { at + 3 ≤ length out.old }
-    ensures { out.new ≡ put_at at (tag ∷ two size) out.old }
+pub(crate) fn header(tag: u8, size: u16) -> [u8; 3]
+    ensures { result ≡ tag ∷ two size }
 {
-    out[at] = tag;
-    put_pair(out, at + 1, size);
+    let [hi, lo] = size.to_be_bytes();
+    [tag, hi, lo]
 }
 
-fn kind_number(kind: Kind) -> u8
-    ensures { result ≡ kind_number kind }
+// The wires of an output.
+pub(crate) fn wires(zeroth: u16, first: u16) -> [u8; 4]
+    ensures { result ≡ two zeroth ++ two first }
 {
-    match kind {
-        Kind::Mask => 0,
-        Kind::Not => 1,
-        Kind::And => 2,
-        Kind::Xor => 3,
-        Kind::Reg => 4,
-        Kind::Look1 => 5,
-        Kind::Look2 => 6,
-        Kind::Look3 => 7,
-        Kind::Look4 => 8,
-    }
-}
-
-// The parts of a cell.
-fn put_parts(out: &mut [u8], at: usize, x: Cell)
-    requires { at + 11 ≤ length out.old }
-    ensures { out.new ≡ put_at at (cell_bytes x) out.old }
-{
-    out[at] = kind_number(x.kind);
-    put_pair(out, at + 1, x.table);
-    put_pair(out, at + 3, x.a);
-    put_pair(out, at + 5, x.b);
-    put_pair(out, at + 7, x.c);
-    put_pair(out, at + 9, x.d);
+    let [zeroth_hi, zeroth_lo] = zeroth.to_be_bytes();
+    let [first_hi, first_lo] = first.to_be_bytes();
+    [zeroth_hi, zeroth_lo, first_hi, first_lo]
 }
 
 // The field of a cell.
-pub(crate) fn put_cell(out: &mut [u8], at: usize, x: Cell)
-    requires { at + 14 ≤ length out.old }
-    ensures { out.new ≡ put_at at (field 3 (cell_bytes x)) out.old }
+pub(crate) fn cell_field(x: Cell) -> [u8; 14]
+    ensures { result ≡ field 3 (cell_bytes x) }
 {
-    put_header(out, at, CELL, 11);
-    put_parts(out, at + HEADER, x);
+    let kind = u8::from(x.kind);
+    let [table_hi, table_lo] = x.table.to_be_bytes();
+    let [a_hi, a_lo] = x.a.to_be_bytes();
+    let [b_hi, b_lo] = x.b.to_be_bytes();
+    let [c_hi, c_lo] = x.c.to_be_bytes();
+    let [d_hi, d_lo] = x.d.to_be_bytes();
+    [
+        CELL, 0, 11, kind, table_hi, table_lo, a_hi, a_lo, b_hi, b_lo, c_hi, c_lo, d_hi, d_lo,
+    ]
 }

@@ -52,7 +52,7 @@ impl TruthTable {
     pub fn try_new(n: usize, m: usize, entries: &[u8]) -> Result<TruthTable, NetlistFault>
         ensures { Makes result n m entries.now }
     {
-        if n < 1 || n > 4 || m < 1 || m > 4 || entries.len() != power(n) {
+        if !(1..=4).contains(&n) || !(1..=4).contains(&m) || entries.len() != power(n) {
             return Err(NetlistFault::TableSize);
         }
         check_entries(power(m), entries)?;
@@ -106,9 +106,9 @@ impl TruthTable {
     pub fn value(&self, c: usize, argument: usize) -> bool
         ensures { result ≡ output_at (tabled self.now) c argument }
     {
-        if argument >= self.entries.len() || c >= 8 {
-            return false;
+        match self.entry(argument) {
+            Some(entry) if c < 8 => (entry >> c) % 2 == 1,
+            _ => false,
         }
-        (self.entries[argument] >> c) % 2 == 1
     }
 }

@@ -5,4 +5,4 @@ use Rattle.blockfile.proofs.Items.{cell_item}
 use Rattle.blockfile.proofs.writing.put_cells.Given as goal
 
 abbrev pub invariant-loop-k : goal.invariant-loop-k
-invariant-loop-k g l = l.out ≡ put_at l.at (flat_map cell_item (take l.k (g.B.Block.block l.source).cells)) l.initial.out
+invariant-loop-k g l = l.out ≡ put_at 0 (flat_map cell_item (take l.k (g.B.Block.block l.source).cells)) l.initial.out

@@ -1,13 +1,14 @@
-use Rattle.std.proofs.Common.{◌^◌, sym, ap, ◌∙◌}
+use Rattle.std.proofs.Common.{◌^◌, take, sym, ap, ◌∙◌, arith}
 use Rattle.netlist.specs.Circuit.{bit}
-use Rattle.block.proofs.Entries.{in_use, outside}
+use Rattle.block.proofs.Entries.{read_some, read_none, bit_zero, bit_past}
 use Rattle.block.proofs.table.TruthTable.value.Goals as goal
 
-pub returns-then-argument-ge16 : goal.returns-then-argument-ge16
-returns-then-argument-ge16 c =
+pub returns-in_default : goal.returns-in_default
+returns-in_default c =
     let t = c.args.self.now in
-    sym (ap (λ x. bit x c.args.c) (in_use (2 ^ t.n) t.entries t.rest c.args.argument)
-    ∙ outside t.n t.m c.args.argument c.args.c t.entries t.size.1 t.size.3 t.small t.rest c.then-argument-ge16.either)
+    sym (ap (λ x. bit x c.args.c) (read_some (take (2 ^ t.n) t.entries) c.args.argument c.in-Some.entry c.in-Some.ensures) ∙ bit_past c.in-Some.entry c.args.c (omega arith) (omega arith))
 
-pub returns : goal.returns
-returns c = let t = c.args.self.now in sym (ap (λ x. bit x c.args.c) (in_use (2 ^ t.n) t.entries t.rest c.args.argument))
+pub returns-in_default-2 : goal.returns-in_default-2
+returns-in_default-2 c =
+    let t = c.args.self.now in
+    sym (ap (λ x. bit x c.args.c) (read_none (take (2 ^ t.n) t.entries) c.args.argument c.in_default.ensures) ∙ bit_zero c.args.c)

@@ -4,13 +4,13 @@ use Rattle.blockfile.proofs.Accepted.{accepted_layout, counted}
 use Rattle.blockfile.proofs.file_view.FileView.cell_count.Goals as goal
 
 pub overflow_sub-result : goal.overflow_sub-result
-overflow_sub-result c = let v = c.args.self.now in let l = accepted_layout v.bytes.now v.accepted in omega (arith, l.long, c.body.ensures)
+overflow_sub-result c = let v = c.args.self.now in let l = accepted_layout v.bytes.now v.accepted in omega arith
 
 pub overflow_sub-result-2 : goal.overflow_sub-result-2
-overflow_sub-result-2 c = let v = c.args.self.now in let l = accepted_layout v.bytes.now v.accepted in omega (arith, l.long, c.body.ensures)
+overflow_sub-result-2 c = let v = c.args.self.now in let l = accepted_layout v.bytes.now v.accepted in omega arith
 
 pub overflow_sub-result-3 : goal.overflow_sub-result-3
-overflow_sub-result-3 c = let v = c.args.self.now in let l = accepted_layout v.bytes.now v.accepted in omega (arith, l.long, l.outputs, c.body.ensures, c.from.ensures)
+overflow_sub-result-3 c = let v = c.args.self.now in let l = accepted_layout v.bytes.now v.accepted in omega arith
 
 pub returns : goal.returns
 returns c =

@@ -1,7 +1,11 @@
-use Rattle.std.proofs.Common.{sym, ap, ◌∙◌}
-use Rattle.blockfile.specs.Viewing.{block_in}
-use Rattle.blockfile.proofs.Accepted.{refused, identity_read}
+use Rattle.std.proofs.Common.{refl, ap, ◌∙◌}
+use Rattle.blockfile.specs.Views.{viewed}
+use Rattle.blockfile.proofs.Accepted.{accepted_lawful, identity_read}
+use Rattle.blockfile.proofs.Views.{view_or}
 use Rattle.blockfile.proofs.file_view.viewing.view.Goals as goal
 
-pub returns-in-Err : goal.returns-in-Err
-returns-in-Err c = ap block_in c.over-in-Err.ensures ∙ identity_read ∙ sym (refused c.args.bytes.now _ c.in-Err.ensures.answer)
+pub invariant_of-unwrap_or : goal.invariant_of-unwrap_or
+invariant_of-unwrap_or c = record { accepted = refl; whole = accepted_lawful _ refl }
+
+pub returns : goal.returns
+returns c = ap viewed c.unwrap_or.ensures ∙ view_or c.args.bytes.now c.try_from.result _ c.try_from.ensures identity_read
