@@ -98,7 +98,7 @@ module _ (t : Table) (l : LawfulTable t) (x y masks : List Bool) (hx : length x 
   }
 
 pub recombines : (t : Table) → LawfulTable t → Recombines (ghpc_of t)
-recombines t l x y masks hx hy hm c h =
+recombines t l c h x y masks hx hy hm =
     let s = settles t l x y masks hx hy in
     let e = get_or_each t.m (outputs_of t) c (0, 0) h in
     ap₂ (λ u v. xor (settled_at (ghpc_of t) x y masks u) (settled_at (ghpc_of t) x y masks v)) (ap (in_domain false) e) (ap (in_domain true) e)

@@ -2,7 +2,7 @@
 use Rattle.std.proofs.Common.{◌≡◌, Bool, true, false, Ok, Err, sym, refl, ◌∙◌}
 use Rattle.std.proofs.lemmas.Bool.{true≢false}
 use Rattle.fault.specs.declared.NetlistFault.TheVariants.{Breadth}
-use Rattle.isolation.proofs.Tests.{tests_clean}
+use Rattle.isolation.specs.Tests.{tests_clean}
 use Rattle.isolation.proofs.Tests.{clean_test}
 use Rattle.block.specs.Blocks.{Whole}
 use Rattle.verdict.specs.Rules.{circuit_of, bundle}
