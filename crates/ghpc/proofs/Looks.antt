@@ -2,16 +2,16 @@
 use Rattle.std.proofs.Common.{◌≡◌, ℕ, zero, suc, ◌+◌, ◌-◌, ◌*◌, ◌%◌, ◌^◌, ◌<◌, ◌≤◌, Bool, true, false, List, [], ◌∷◌, length, get_or, sym, refl, ap, ◌∙◌, subst, add-one, arith, pow_mono}
 use mir.Val.{bool_byte}
 use Rattle.std.proofs.lemmas.Nat.{shl_whole}
-use Rattle.ghpc.proofs.Numbers.{number_fits}
-use Rattle.ghpc.proofs.TableNumbers.{number_more}
+use Rattle.constructions.proofs.Numbers.{number_fits}
+use Rattle.constructions.proofs.TableNumbers.{number_more}
 use Rattle.netlist.specs.Circuit.{bit_of, number}
-use Rattle.ghpc.specs.Chains.{chain_wire}
+use Rattle.constructions.specs.Chains.{chain_wire}
 use Rattle.netlist.specs.declared.cell.Kind.{Kind}
 use Rattle.netlist.specs.declared.cell.Kind.TheVariants.{Look1, Look2, Look3, Look4}
 use Rattle.netlist.specs.declared.cell.Cell.{Cell}
 use Rattle.isolation.specs.Patterns.{share_wire}
-use Rattle.ghpc.specs.Gates.{each, look_kind, cell_of}
-use Rattle.ghpc.proofs.Rows.{length_each, get_or_each}
+use Rattle.constructions.specs.Gates.{each, look_kind, cell_of}
+use Rattle.constructions.proofs.Rows.{length_each, get_or_each}
 
 get_or_past : (xs : List ℕ) (i : ℕ) → length xs ≤ i → get_or xs i 0 ≡ 0
 get_or_past [] i h = refl

@@ -1,7 +1,7 @@
 use Rattle.std.proofs.Common.{◌≡◌, ◌+◌, ◌*◌, [], ◌∷◌, ap, ◌∙◌}
 use Rattle.netlist.specs.declared.cell.Kind.TheVariants.{Xor}
-use Rattle.ghpc.specs.Gates.{cell_of}
-use Rattle.ghpc.specs.Chains.{chain_wire}
+use Rattle.constructions.specs.Gates.{cell_of}
+use Rattle.constructions.specs.Chains.{chain_wire}
 use Rattle.ghpc.proofs.Looks.{chain_first, chain_more}
 use Rattle.ghpc.proofs.gates.join_cell.Goals as goal
 use Rattle.ghpc.proofs.gates.join_cell.Goals.{then-j-eq0, else-j-eq0}

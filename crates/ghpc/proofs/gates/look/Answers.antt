@@ -1,7 +1,7 @@
 use Rattle.std.proofs.Common.{◌≡◌, ◌≤◌, get_or, ap, ◌∙◌, arith}
 use Rattle.block.specs.Tables.{tabled, tabled_lawful}
 use Rattle.isolation.specs.Patterns.{share_wire}
-use Rattle.ghpc.specs.Gates.{each, look_kind, domain_shares}
+use Rattle.constructions.specs.Gates.{each, look_kind, domain_shares}
 use Rattle.ghpc.proofs.Looks.{look_made, look_1, look_2, look_3, look_4}
 use Rattle.ghpc.proofs.gates.look.Goals as goal
 use Rattle.ghpc.proofs.gates.look.Goals.{in-1, in-2, in-3, in_default}

@@ -3,8 +3,8 @@ use Rattle.std.proofs.lemmas.Nat.{one_shl}
 use Rattle.netlist.specs.declared.cell.Cell.{Cell}
 use Rattle.netlist.specs.Nets.{nth}
 use Rattle.block.specs.Tables.{tabled, tabled_lawful}
-use Rattle.ghpc.specs.Gates.{look_kind, cell_of, domain_shares, cell_gates}
-use Rattle.ghpc.proofs.TableNumbers.{table_one}
+use Rattle.constructions.specs.Gates.{look_kind, cell_of, domain_shares, cell_gates}
+use Rattle.constructions.proofs.TableNumbers.{table_one}
 use Rattle.ghpc.proofs.gates.selector_cell.Goals as goal
 
 pub overflow_shl-i : goal.overflow_shl-i

@@ -3,7 +3,7 @@ use lib.Bits.{bit_xor}
 use Rattle.netlist.specs.Circuit.{number, bit_of}
 use Rattle.block.specs.Blocks.{output_at}
 use Rattle.block.specs.Tables.{tabled}
-use Rattle.ghpc.specs.Gates.{each}
+use Rattle.constructions.specs.Gates.{each}
 use Rattle.ghpc.proofs.Looks.{bit_byte, bits_more}
 use Rattle.ghpc.proofs.gates.shifted.Goals as goal
 
