@@ -1,64 +1,23 @@
 -- Look-ups, chains and tables as numbers, as they are worked out.
-use Rattle.std.proofs.Common.{◌≡◌, ℕ, zero, suc, ◌+◌, ◌-◌, ◌*◌, ◌%◌, ◌^◌, ◌<◌, ◌≤◌, Bool, true, false, List, [], ◌∷◌, length, get_or, sym, refl, ap, ◌∙◌, subst, add-one, arith, pow_mono}
+use Rattle.std.proofs.Common.{◌≡◌, ℕ, suc, ◌+◌, ◌*◌, ◌%◌, ◌^◌, ◌<◌, ◌≤◌, Bool, true, false, get_or, sym, refl, ap, ◌∙◌, subst, add-one, arith, pow_mono}
 use mir.Val.{bool_byte}
+use Rattle.std.proofs.lemmas.List.{get_or_past}
 use Rattle.std.proofs.lemmas.Nat.{shl_whole}
 use Rattle.constructions.proofs.Numbers.{number_fits}
 use Rattle.constructions.proofs.TableNumbers.{number_more}
 use Rattle.netlist.specs.Circuit.{bit_of, number}
-use Rattle.constructions.specs.Chains.{chain_wire}
-use Rattle.netlist.specs.declared.cell.Kind.{Kind}
-use Rattle.netlist.specs.declared.cell.Kind.TheVariants.{Look1, Look2, Look3, Look4}
-use Rattle.netlist.specs.declared.cell.Cell.{Cell}
 use Rattle.isolation.specs.Patterns.{share_wire}
-use Rattle.constructions.specs.Gates.{each, look_kind, cell_of}
+use Rattle.constructions.specs.Gates.{each}
 use Rattle.constructions.proofs.Rows.{length_each, get_or_each}
 
-get_or_past : (xs : List ℕ) (i : ℕ) → length xs ≤ i → get_or xs i 0 ≡ 0
-get_or_past [] i h = refl
-get_or_past (x ∷ xs) zero h = absurd (omega arith)
-get_or_past (x ∷ xs) (suc i) h = get_or_past xs i (omega arith)
-
 pub share_past : (n i : ℕ) (d : Bool) → n ≤ i → 0 ≡ get_or (each n (share_wire d)) i 0
-share_past n i d h = sym (get_or_past (each n (share_wire d)) i (omega (arith, length_each n (share_wire d))))
+share_past n i d h = sym (get_or_past (each n (share_wire d)) i 0 (omega (arith, length_each n (share_wire d))))
 
 pub share_1 : (n i : ℕ) (d : Bool) → i < n → d ≡ true → 2 * i + 1 ≡ get_or (each n (share_wire d)) i 0
 share_1 n i d h e = sym (get_or_each n (share_wire d) i 0 h ∙ ap (λ b. share_wire b i) e)
 
 pub share_0 : (n i : ℕ) (d : Bool) → i < n → d ≡ false → 2 * i ≡ get_or (each n (share_wire d)) i 0
 share_0 n i d h e = sym (get_or_each n (share_wire d) i 0 h ∙ ap (λ b. share_wire b i) e ∙ omega arith)
-
-abbrev cell_with : Kind → ℕ → ℕ → ℕ → ℕ → ℕ → Cell
-cell_with k t a b c d = record { kind = k; table = t; a = a; b = b; c = c; d = d }
-
-pub look_made : (k l : Kind) (t : ℕ) (os : List ℕ) (a b c d : ℕ) → k ≡ l → a ≡ get_or os 0 0 → b ≡ get_or os 1 0 → c ≡ get_or os 2 0 → d ≡ get_or os 3 0
-    → cell_with k t a b c d ≡ cell_of l t os
-look_made k l t os a b c d ek ea eb ec ed =
-    ap (λ x. cell_with x t a b c d) ek ∙ ap (λ x. cell_with l t x b c d) ea ∙ ap (λ x. cell_with l t (get_or os 0 0) x c d) eb
-    ∙ ap (λ x. cell_with l t (get_or os 0 0) (get_or os 1 0) x d) ec ∙ ap (λ x. cell_with l t (get_or os 0 0) (get_or os 1 0) (get_or os 2 0) x) ed
-
-pub look_4 : (n : ℕ) → 4 ≤ n → Look4 ≡ look_kind n
-look_4 (suc (suc (suc (suc n)))) h = refl
-look_4 (suc (suc (suc zero))) h = absurd (omega arith)
-look_4 (suc (suc zero)) h = absurd (omega arith)
-look_4 (suc zero) h = absurd (omega arith)
-look_4 zero h = absurd (omega arith)
-
-pub chain_first : (first chain j : ℕ) → j ≡ 0 → first ≡ chain_wire first chain j
-chain_first first chain zero e = refl
-chain_first first chain (suc j) e = absurd (omega arith)
-
-pub chain_more : (first chain j : ℕ) → (j ≡ 0 → ⊥) → chain + j - 1 ≡ chain_wire first chain j
-chain_more first chain zero e = absurd (e refl)
-chain_more first chain (suc j) e = omega arith
-
-pub look_1 : (n : ℕ) → n ≡ 1 → Look1 ≡ look_kind n
-look_1 n e = sym (ap look_kind e)
-
-pub look_2 : (n : ℕ) → n ≡ 2 → Look2 ≡ look_kind n
-look_2 n e = sym (ap look_kind e)
-
-pub look_3 : (n : ℕ) → n ≡ 3 → Look3 ≡ look_kind n
-look_3 n e = sym (ap look_kind e)
 
 pub bit_byte : (b : Bool) → bool_byte b ≡ bit_of b
 bit_byte true = refl

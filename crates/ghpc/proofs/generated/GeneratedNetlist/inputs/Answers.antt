@@ -1,4 +1,4 @@
-use Rattle.std.proofs.Common.{sym, ap, ◌∙◌}
+use Rattle.std.proofs.Common.{ap, arith}
 use Rattle.block.specs.Blocks.{Table}
 use Rattle.block.specs.Tables.{tabled, tabled_lawful}
 use Rattle.ghpc.proofs.generated.GeneratedNetlist.inputs.Goals as goal
@@ -6,4 +6,5 @@ use Rattle.ghpc.proofs.generated.GeneratedNetlist.inputs.Goals as goal
 pub returns : goal.returns
 returns g c =
     let x = c.args.self.now.table in
-    c.inputs.ensures ∙ sym (ap (λ (t : Table). t.n) (g.met.C.Construction.layered (tabled x) (tabled_lawful x)).table)
+    let e = ap (λ (t : Table). t.n) (g.met.C.Construction.layered (tabled x) (tabled_lawful x)).table in
+    omega arith
