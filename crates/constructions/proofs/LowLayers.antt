@@ -1,5 +1,5 @@
 -- GHPC_LL lies in layers.
-use Rattle.std.proofs.Common.{ℕ, ◌+◌, ◌*◌, sym, refl, subst, arith}
+use Rattle.std.proofs.Common.{◌+◌, ◌*◌, sym, refl, subst, arith}
 use Rattle.netlist.specs.Circuit.{mask_count}
 use Rattle.block.specs.Blocks.{Table, LawfulTable, net_part}
 use Rattle.verdict.specs.Rules.{circuit_of}

@@ -21,6 +21,7 @@ pub struct Layout {
 }
 
 impl Layout {
+    // That of a block of this table with so many masks.
     pub fn of(table: &TruthTable, masks: usize) -> Layout
         requires { masks ≤ 4096 }
         ensures arguments { result.arguments ≡ argument_count (tabled table.now) }
@@ -52,12 +53,10 @@ fn share(n: usize, domain: bool, i: usize) -> u16
     requires { n ≤ 4 }
     ensures { result ≡ slice_index (each n (share_wire domain)) i }
 {
-    if i >= n {
-        0
-    } else if domain {
-        2 * i as u16 + 1
+    if i < n {
+        2 * i as u16 + u16::from(domain)
     } else {
-        2 * i as u16
+        0
     }
 }
 
@@ -86,11 +85,9 @@ pub fn look(table: &TruthTable, domain: bool, bits: u16) -> Cell
 pub fn shifted(table: &TruthTable, c: usize, i: usize) -> u16
     ensures { result ≡ table_of (tabled table.now) (λ a. output_at (tabled table.now) c (bit_xor a i)) }
 {
-    let mut bits = 0;
-    for a in 0..table.arguments() {
-        bits += u16::from(table.value(c, a ^ i)) << a;
-    }
-    bits
+    (0..table.arguments())
+        .map(|a| u16::from(table.value(c, a ^ i)) << a)
+        .sum()
 }
 
 // The cells that tell whether the shares of domain 1 are `k / 2`, from wire `first` on: the look-up and its register.
@@ -129,6 +126,7 @@ pub struct Product {
 
 impl Product {
     // Its cells in order: the look-up, masked, held, and selected, and then a last one.
+    // An array of the five would be no plainer: it would add up the bits of the table for each of them.
     pub fn cell(&self, table: &TruthTable, place: usize, last: Cell) -> Cell
         requires { place < 5 }
         ensures { Some result ≡ nth (selected_cells (tabled table.now) self.now.output self.now.argument self.now.entry self.now.mask self.now.decoded last) place }

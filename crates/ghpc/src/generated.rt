@@ -21,6 +21,7 @@ use std::alloc::AllocError;
 use std::marker::PhantomData;
 use verdict::Acceptance;
 
+// The construction serves the table.
 pub struct Generated<C: Construction> {
     table: TruthTable,
     by: PhantomData<C>,
@@ -73,6 +74,7 @@ impl<C: Construction> Generated<C> {
         Ok(())
     }
 
+    // Where its parts stand.
     fn layout(&self) -> Layout
         ensures masks { result.masks ≡ 2 * (tabled self.now.table).n }
         ensures selectors { result.selectors ≡ first_selector (tabled self.now.table) (mask_count (circuit_of (C.block_of (tabled self.now.table)))) }
