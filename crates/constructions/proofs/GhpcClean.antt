@@ -18,7 +18,8 @@ use Rattle.constructions.proofs.Rows.{length_each, get_or_each, length_rows, all
 use Rattle.constructions.proofs.Selecting.{taken_up}
 use Rattle.constructions.proofs.Inputs.{still_shares}
 use Rattle.constructions.proofs.Known.{Isolated, known_alone, known_still, known_restored}
-use Rattle.constructions.proofs.GhpcCounts.{few_arguments, masks_ghpc}
+use Rattle.constructions.proofs.GhpcCounts.{masks_ghpc}
+use Rattle.constructions.proofs.Numbers.{most_arguments}
 use Rattle.constructions.proofs.GhpcValues.{settles}
 use Rattle.constructions.proofs.GhpcProbes.{probes_see}
 
@@ -127,7 +128,7 @@ module _ (t : Table) (l : LawfulTable t) where
   pub fine_partial : (c j : ℕ) → c < t.m → j < argument_count t → Fine true (partial t c j)
   fine_partial c j h b =
       terms_restored (seen (circuit_of (ghpc_of t)) (partial t c j)) (each (suc j) (term t c)) ((probes_see t l).from_partial c j h b)
-      (omega (arith, few_arguments t l, length_each (suc j) (term t c)))
+      (omega (arith, most_arguments t l, length_each (suc j) (term t c)))
       (all_each (Restored (circuit_of (ghpc_of t)) true (λ x y z. makes_up (number x) y z)) (suc j) (term t c) (λ i k. restored_term c i h (omega arith)))
 
   pub fine_delayed : (c : ℕ) → c < t.m → Fine false (delayed t c)
@@ -142,7 +143,7 @@ module _ (t : Table) (l : LawfulTable t) where
       (omega (arith, l.few_outputs, length_each t.m (output_0 t)))
       (all_each (Still (circuit_of (ghpc_of t)) false) t.m (output_0 t) still_output_0)
   fine_bundle true =
-      let few : t.m * argument_count t ≤ 4 * 16 = mul-le-mul l.few_outputs (few_arguments t l) in
+      let few : t.m * argument_count t ≤ 4 * 16 = mul-le-mul l.few_outputs (most_arguments t l) in
       terms_restored (bundle (ghpc_of t) true) (rows t.m (λ c. each (argument_count t) (term t c))) (probes_see t l).from_outputs_1
       (omega (arith, length_rows t.m (argument_count t) (λ c. each (argument_count t) (term t c)) (λ c. length_each (argument_count t) (term t c))))
       (all_rows (Restored (circuit_of (ghpc_of t)) true (λ x y z. makes_up (number x) y z)) t.m (λ c. each (argument_count t) (term t c))

@@ -1,5 +1,5 @@
 -- How many wires and masks GHPC has, and its latency.
-use Rattle.std.proofs.Common.{◌≡◌, ℕ, zero, suc, pred, ◌+◌, ◌*◌, ◌<◌, ◌≤◌, Bool, true, false, [], ◌∷◌, ◌++◌, length, get_or, replicate, refl, ap, ◌∙◌, mul-le-mul, arith, pow_mono}
+use Rattle.std.proofs.Common.{◌≡◌, ℕ, zero, suc, pred, ◌+◌, ◌*◌, ◌<◌, ◌≤◌, Bool, true, false, [], ◌∷◌, ◌++◌, length, get_or, replicate, refl, ap, ◌∙◌, mul-le-mul, arith}
 use lib.ListN.{length-replicate, length-map}
 use Rattle.netlist.specs.Circuit.{fresh_after, wire_count, mask_count, counts, register_counts}
 use Rattle.netlist.specs.Cells.{driver}
@@ -8,7 +8,7 @@ use Rattle.verdict.specs.Rules.{circuit_of, latency}
 use Rattle.constructions.specs.Gates.{argument_count, cell_gates}
 use Rattle.constructions.specs.Ghpc.{mask, selector, breadth, held, term, partial, output_0, output_1, product_cells, delay_cells, output_cells, selector_cells, cells, ghpc_of}
 use Rattle.constructions.specs.Theorems.{GhpcHasCounts}
-use Rattle.constructions.proofs.Numbers.{some_arguments}
+use Rattle.constructions.proofs.Numbers.{some_arguments, most_arguments}
 use Rattle.constructions.proofs.Drivers.{driver_gates, ghpc_drivers}
 use Rattle.constructions.proofs.Fresh.{NoFresh, no_fresh_rows, no_fresh_each, no_fresh_append}
 use Rattle.constructions.proofs.Frame.{fresh_framed}
@@ -21,14 +21,11 @@ pub wires_ghpc : (t : Table) → wire_count (circuit_of (ghpc_of t)) ≡ 2 * t.n
 wires_ghpc t = omega (arith, length-map (cells t (cell_gates t)) driver, length_cells t (cell_gates t))
 
 module _ (t : Table) (l : LawfulTable t) where
-  pub few_arguments : argument_count t ≤ 16
-  few_arguments = pow_mono l.few_inputs
-
   pub few_wires : wire_count (circuit_of (ghpc_of t)) ≤ 512
   few_wires =
-      let b : breadth t ≤ 97 = omega (arith, few_arguments) in
+      let b : breadth t ≤ 97 = omega (arith, most_arguments t l) in
       let c : t.m * breadth t ≤ 4 * 97 = mul-le-mul l.few_outputs b in
-      omega (arith, wires_ghpc t, few_arguments, l.few_inputs, l.few_outputs)
+      omega (arith, wires_ghpc t, most_arguments t l, l.few_inputs, l.few_outputs)
 
   pub masks_ghpc : mask_count (circuit_of (ghpc_of t)) ≡ t.m
   masks_ghpc =
