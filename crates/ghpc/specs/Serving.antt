@@ -4,5 +4,5 @@ use Rattle.fault.specs.declared.NetlistFault.{NetlistFault}
 use Rattle.fault.specs.declared.NetlistFault.TheVariants.{MaskLimit}
 
 -- one that would need too many masks is refused
-abbrev pub mask_answer : Bool → Result (Unit {0}) NetlistFault
-mask_answer served = cond served (Ok tt) (Err MaskLimit)
+abbrev pub served_answer : Bool → Result (Unit {0}) NetlistFault
+served_answer served = cond served (Ok tt) (Err MaskLimit)

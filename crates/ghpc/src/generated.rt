@@ -7,7 +7,7 @@ ghost use Rattle.verdict.specs.Rules.{circuit_of, Accepted, latency};
 ghost use Rattle.verdict.specs.Verdict.{verdict};
 ghost use Rattle.netlist.specs.Nets.{cell_at};
 ghost use Rattle.fault.specs.declared.NetlistFault.TheVariants.{MaskLimit};
-ghost use Rattle.ghpc.specs.Serving.{mask_answer};
+ghost use Rattle.ghpc.specs.Serving.{served_answer};
 ghost use Rattle.constructions.specs.Layers.{first_selector, first_output};
 
 use crate::construction::Construction;
@@ -28,6 +28,7 @@ pub struct Generated<C: Construction> {
     ghost served: { C.serves (tabled table) ≡ true },
 }
 
+// By hand, since no derive goes over the ghost field of a struct with a parameter.
 impl<C: Construction> Clone for Generated<C> {
     ghost is_clone = { λ x y. y ≡ x };
 
@@ -67,7 +68,7 @@ impl<C: Construction> Generated<C> {
 
     // Makes this the block of a table; one that asks for too many masks is refused, and leaves the block as it was.
     pub fn fill(&mut self, table: TruthTable) -> Result<(), NetlistFault>
-        ensures answer { result ≡ mask_answer (C.serves (tabled table)) }
+        ensures answer { result ≡ served_answer (C.serves (tabled table)) }
         ensures after { MatchResult result (λ _. tabled self.new.table ≡ tabled table) (λ _. self.new ≡ self.old) }
     {
         *self = Generated::try_new(table)?;
