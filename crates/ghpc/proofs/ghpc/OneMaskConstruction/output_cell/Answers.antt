@@ -3,8 +3,9 @@ use Rattle.netlist.specs.declared.cell.Kind.TheVariants.{Reg}
 use Rattle.block.specs.Tables.{tabled}
 use Rattle.constructions.specs.Gates.{cell_of}
 use Rattle.constructions.specs.Ghpc.{breadth, start, entry, mask, decoded, product}
+use Rattle.constructions.proofs.Numbers.{some_arguments}
 use Rattle.ghpc.proofs.Layers.{selected_same}
-use Rattle.ghpc.proofs.GhpcAnswers.{product_there, join_there}
+use Rattle.ghpc.proofs.GhpcAnswers.{product_there, join_there, delay_there, output_0_there}
 use Rattle.ghpc.proofs.ghpc.OneMaskConstruction.output_cell.Goals as goal
 use Rattle.ghpc.proofs.ghpc.OneMaskConstruction.output_cell.Goals.{After-breadth}
 
@@ -27,3 +28,16 @@ returns-then-place-all-2 c =
     ap Some c.join_cell.ensures
     ∙ join_there (tabled c.args.table.now) c.args.c c.args.place _ _ (c.args.place - 5 * c.of-at.result.arguments) (omega arith) (omega arith) (omega (arith, c.if-place-all.false))
     (omega (arith, c.if-place-all.false, c.if-place-all-2.true))
+
+pub returns-then-place-all-3 : goal.returns-then-place-all-3
+returns-then-place-all-3 c =
+    let some = some_arguments (tabled c.args.table.now) in
+    ap Some c.gate-then-place-all-3.ensures
+    ∙ delay_there (tabled c.args.table.now) c.args.c c.args.place _ some (omega (arith, c.if-place-all-3.true)) (omega arith)
+
+pub returns-else-place-all-3 : goal.returns-else-place-all-3
+returns-else-place-all-3 c =
+    let some = some_arguments (tabled c.args.table.now) in
+    let s = begins (goal.at.returns-else-place-all-3 c).After-breadth in
+    ap Some c.gate-else-place-all-3.ensures
+    ∙ output_0_there (tabled c.args.table.now) c.args.c c.args.place _ some (omega (arith, c.if-place-all-2.false, c.if-place-all-3.false, c.requires.1)) (omega arith)
