@@ -8,7 +8,7 @@ use Rattle.block.specs.Blocks.{Table, Whole, LawfulBlock, net_part}
 use Rattle.constructions.specs.Gates.{cell_gates}
 use Rattle.constructions.specs.Layers.{selecting_cells, selected_cells, first_selector, first_output, Layered}
 
-module _ (t : Table) (b : Whole) (masks breadth : ℕ) (cells : ℕ → List Cell) (y : Layered t b masks breadth cells) (l : LawfulBlock b) where
+module _ {t : Table} {b : Whole} {masks breadth : ℕ} {cells : ℕ → List Cell} (y : Layered t b masks breadth cells) (l : LawfulBlock b) where
   pub few_wires : first_output t masks + t.m * breadth ≤ 4096
   few_wires = omega (arith, l.net.size, y.wires)
 

@@ -6,26 +6,26 @@ use Rattle.ghpc.proofs.generated.Generated.output_cell.Goals as goal
 pub nonzero_div-c : goal.nonzero_div-c
 nonzero_div-c g c =
     let x = c.args.self.now.table in
-    some _ _ _ _ _ (g.met.C.Construction.layered (tabled x) (tabled_lawful x)) (g.met.C.Construction.lawful (tabled x) (tabled_lawful x)) c.args.k c.breadth-breadth.result c.breadth-breadth.ensures
+    some (g.met.C.Construction.layered (tabled x) (tabled_lawful x)) (g.met.C.Construction.lawful (tabled x) (tabled_lawful x)) c.args.k c.breadth-breadth.result c.breadth-breadth.ensures
 
 pub nonzero_rem-k : goal.nonzero_rem-k
 nonzero_rem-k g c =
     let x = c.args.self.now.table in
-    some _ _ _ _ _ (g.met.C.Construction.layered (tabled x) (tabled_lawful x)) (g.met.C.Construction.lawful (tabled x) (tabled_lawful x)) c.args.k c.breadth-breadth.result c.breadth-breadth.ensures
+    some (g.met.C.Construction.layered (tabled x) (tabled_lawful x)) (g.met.C.Construction.lawful (tabled x) (tabled_lawful x)) c.args.k c.breadth-breadth.result c.breadth-breadth.ensures
 
 pub output_cell-requires : goal.output_cell-requires
 output_cell-requires g c =
     let x = c.args.self.now.table in
     let h : c.args.k / c.breadth-breadth.result < (tabled x).m = omega arith in
-    (h, within _ _ _ _ _ (g.met.C.Construction.layered (tabled x) (tabled_lawful x)) (g.met.C.Construction.lawful (tabled x) (tabled_lawful x)) c.args.k c.breadth-breadth.result c.breadth-breadth.ensures h)
+    (h, within (g.met.C.Construction.layered (tabled x) (tabled_lawful x)) (g.met.C.Construction.lawful (tabled x) (tabled_lawful x)) c.args.k c.breadth-breadth.result c.breadth-breadth.ensures h)
 
 pub returns-then-c-outputs : goal.returns-then-c-outputs
 returns-then-c-outputs g c =
     let x = c.args.self.now.table in
     c.output_cell.ensures
-    ∙ on_output _ _ _ _ _ (g.met.C.Construction.layered (tabled x) (tabled_lawful x)) (g.met.C.Construction.lawful (tabled x) (tabled_lawful x)) c.args.k c.breadth-breadth.result c.breadth-breadth.ensures (omega arith)
+    ∙ on_output (g.met.C.Construction.layered (tabled x) (tabled_lawful x)) (g.met.C.Construction.lawful (tabled x) (tabled_lawful x)) c.args.k c.breadth-breadth.result c.breadth-breadth.ensures (omega arith)
 
 pub returns-else-c-outputs : goal.returns-else-c-outputs
 returns-else-c-outputs g c =
     let x = c.args.self.now.table in
-    past _ _ _ _ _ (g.met.C.Construction.layered (tabled x) (tabled_lawful x)) (g.met.C.Construction.lawful (tabled x) (tabled_lawful x)) c.args.k c.breadth-breadth.result c.breadth-breadth.ensures (omega arith)
+    past (g.met.C.Construction.layered (tabled x) (tabled_lawful x)) (g.met.C.Construction.lawful (tabled x) (tabled_lawful x)) c.args.k c.breadth-breadth.result c.breadth-breadth.ensures (omega arith)
