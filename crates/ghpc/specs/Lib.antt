@@ -1,11 +1,1 @@
-pub mod Chains
-pub mod Gates
-pub mod Ghpc
-pub mod GhpcBlocks
-pub mod GhpcByWire
-pub mod GhpcForms
-pub mod LowLatency
-pub mod LowLatencyBlocks
-pub mod LowLatencyByWire
-pub mod LowLatencyForms
-pub mod Theorems
+pub mod Serving

@@ -1,9 +1,9 @@
 -- What holds of every carrying: its length, its beginning, masks that nothing reads, carrying the same values once more, and the same cells carried as two things.
-use Rattle.std.proofs.Common.{◌≡◌, ℕ, zero, suc, ◌+◌, ◌<◌, ◌≤◌, Bool, false, List, [], ◌∷◌, ◌++◌, map, length, get_or, sym, refl, ap, ◌∙◌, append_assoc, append-nil, add-zero, add-suc, arith, length-append}
-use lib.ListN.{get_or-append}
-use Rattle.std.proofs.lemmas.List.{map_push}
+use Rattle.std.proofs.Common.{◌≡◌, ℕ, suc, ◌+◌, ◌<◌, ◌≤◌, Bool, false, List, [], ◌∷◌, ◌++◌, map, length, get_or, sym, refl, ap, ◌∙◌, append_assoc, append-nil, add-zero, add-suc, arith, length-append}
+use lib.ListN.{get_or-append, get_or-map}
+use lib.Seq.{get_or-append_seam}
+use Rattle.std.proofs.lemmas.List.{map_push, length-map}
 use Rattle.netlist.specs.Circuit.{Driver, fresh, stored, looked, Circuit, share_count, wire_count, Carrier, carried, carry, more_fresh, fresh_after, bits, bit, number, settled}
-use Rattle.isolation.proofs.Lists.{get_or_end}
 
 module _ {V : Type 0} (A : Carrier V) where
   pub length_carry : (cs : List Driver) (k : ℕ) (vs : List V) → length (carry A cs k vs) ≡ length vs + length cs
@@ -73,7 +73,7 @@ module _ (m V : List Bool) where
           let i : length vs < length (vs ++ (carried (bits m) c k vs ∷ [])) = omega arith in
           ap (λ l. get_or l (length vs) false) (sym h)
           ∙ carry_before (bits m) cs (more_fresh c k) (vs ++ (carried (bits m) c k vs ∷ [])) (length vs) false i
-          ∙ get_or_end vs (carried (bits m) c k vs) false
+          ∙ get_or-append_seam vs (carried (bits m) c k vs) [] false
 
       here : (c : Driver) → carry (bits m) cs (more_fresh c k) (vs ++ (carried (bits m) c k vs ∷ [])) ≡ V → carried (reread V) c k vs ≡ carried (bits m) c k vs
       here fresh h = there fresh h
@@ -94,9 +94,7 @@ more_from (looked t os) n k = refl
 
 module _ {V W : Type 0} (A : Carrier V) (B : Carrier W) (h : V → W) (n : ℕ) (r : Respects A B h n) where
   get_or_mapped : (vs : List V) (i : ℕ) → h (get_or vs i A.none) ≡ get_or (map h vs) i B.none
-  get_or_mapped [] i = r.none
-  get_or_mapped (v ∷ vs) zero = refl
-  get_or_mapped (v ∷ vs) (suc i) = get_or_mapped vs i
+  get_or_mapped vs i = sym (get_or-map h vs i A.none) ∙ ap (get_or (map h vs) i) r.none
 
   read_mapped : (vs : List V) (os : List ℕ) → map h (map (λ o. get_or vs o A.none) os) ≡ map (λ o. get_or (map h vs) o B.none) os
   read_mapped vs [] = refl
@@ -105,14 +103,10 @@ module _ {V W : Type 0} (A : Carrier V) (B : Carrier W) (h : V → W) (n : ℕ) 
       let y = read_mapped vs os in
       cc
 
-  long : (vs : List V) → length vs ≡ length (map h vs)
-  long [] = refl
-  long (v ∷ vs) = ap suc (long vs)
-
   carried_mapped : (c : Driver) (k : ℕ) (vs : List V) → h (carried A c k vs) ≡ carried B c (n + k) (map h vs)
-  carried_mapped fresh k vs = r.source (length vs) k ∙ ap (λ w. B.source w (n + k)) (long vs)
+  carried_mapped fresh k vs = r.source (length vs) k ∙ ap (λ w. B.source w (n + k)) (sym (length-map vs h))
   carried_mapped (stored a) k vs =
-      r.store (length vs) (get_or vs a A.none) ∙ ap (B.store (length vs)) (get_or_mapped vs a) ∙ ap (λ w. B.store w (get_or (map h vs) a B.none)) (long vs)
+      r.store (length vs) (get_or vs a A.none) ∙ ap (B.store (length vs)) (get_or_mapped vs a) ∙ ap (λ w. B.store w (get_or (map h vs) a B.none)) (sym (length-map vs h))
   carried_mapped (looked t os) k vs = r.look t (map (λ o. get_or vs o A.none) os) ∙ ap (B.look t) (read_mapped vs os)
 
   -- carrying the one and mapping is mapping and carrying the other

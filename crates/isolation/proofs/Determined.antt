@@ -2,8 +2,9 @@
 use Rattle.std.proofs.Common.{◌≡◌, ℕ, zero, suc, ◌+◌, ◌*◌, ◌<◌, ◌≤◌, Bool, true, false, ◌||◌, ◌⊎◌, List, [], ◌∷◌, ◌++◌, map, length, get_or, take, sym, refl, ap, ◌∙◌, subst, inl, inr, add-zero, add-suc, suc-add, zero-add, arith, length-append, length-take, length-take-le, get_or-take, take_at, eq-eqb, eqb-true}
 use native.Mathlib.Decide.{dec_lt, ℕ_discrete}
 use lib.ListN.{get_or-eq_default}
+use lib.Seq.{get_or-append_seam}
 use Rattle.netlist.specs.Circuit.{Driver, fresh, stored, looked, Circuit, wire_count, share_count, carried, carry, more_fresh, bits, bit, number, probes, union, Wires, settled, seen, no_wire, alone, alone_from}
-use Rattle.isolation.proofs.Lists.{get_or_end, get_or_not_end}
+use Rattle.isolation.proofs.Lists.{get_or_not_end}
 use Rattle.isolation.proofs.Carries.{reread, reread_settled, length_carry, carry_extends, length_settled}
 use Rattle.isolation.specs.Agreeing.{Agree}
 use Rattle.isolation.specs.Theorems.{ProbeDeterminesWire}
@@ -43,11 +44,11 @@ module _ (U V : List Bool) where
     where
       here : Dec (w ≡ length ss) → get_or (rs ++ (a ∷ [])) w false ≡ get_or (us ++ (b ∷ [])) w false
       here (yes e) =
-          let es : get_or (ss ++ (s ∷ [])) w no_wire ≡ s = ap (λ i. get_or (ss ++ (s ∷ [])) i no_wire) e ∙ get_or_end ss s no_wire in
+          let es : get_or (ss ++ (s ∷ [])) w no_wire ≡ s = ap (λ i. get_or (ss ++ (s ∷ [])) i no_wire) e ∙ get_or-append_seam ss s [] no_wire in
           let P : Wires → Type 0 = λ t. Agree t U V in
-          ap (λ i. get_or (rs ++ (a ∷ [])) i false) (e ∙ sym hr) ∙ get_or_end rs a false
+          ap (λ i. get_or (rs ++ (a ∷ [])) i false) (e ∙ sym hr) ∙ get_or-append_seam rs a [] false
           ∙ new (subst P es g)
-          ∙ sym (ap (λ i. get_or (us ++ (b ∷ [])) i false) (e ∙ sym hu) ∙ get_or_end us b false)
+          ∙ sym (ap (λ i. get_or (us ++ (b ∷ [])) i false) (e ∙ sym hu) ∙ get_or-append_seam us b [] false)
       here (no e) =
           let P : Wires → Type 0 = λ t. Agree t U V in
           get_or_not_end rs a false w (λ f. e (f ∙ hr))
@@ -136,7 +137,7 @@ below_carry (c ∷ cs) k ss below = below_carry cs (more_fresh c k) (ss ++ (carr
 
         here : Dec (w ≡ length ss) → v < length (ss ++ (s ∷ []))
         here (yes e) =
-            let es : get_or (ss ++ (s ∷ [])) w no_wire ≡ s = ap (λ i. get_or (ss ++ (s ∷ [])) i no_wire) e ∙ get_or_end ss s no_wire in
+            let es : get_or (ss ++ (s ∷ [])) w no_wire ≡ s = ap (λ i. get_or (ss ++ (s ∷ [])) i no_wire) e ∙ get_or-append_seam ss s [] no_wire in
             let x = new v (sym (ap (λ (t : Wires). t v) es) ∙ h) in omega (arith, len)
         here (no e) =
             let x = below w v (sym (ap (λ (t : Wires). t v) (get_or_not_end ss s no_wire w e)) ∙ h) in omega (arith, len)

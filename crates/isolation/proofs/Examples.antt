@@ -3,7 +3,8 @@ use Rattle.std.proofs.Common.{◌≡◌, ℕ, ◌+◌, ◌*◌, ◌^◌, true, f
 use Rattle.netlist.specs.Circuit.{Driver, fresh, stored, looked, Circuit, wire_count, mask_count, settled, seen}
 use Rattle.isolation.specs.Patterns.{pattern, maskings, size, joined}
 use Rattle.isolation.specs.Clean.{Clean}
-use Rattle.isolation.proofs.Tests.{tests_clean, test_clean}
+use Rattle.isolation.specs.Tests.{tests_clean}
+use Rattle.isolation.proofs.Tests.{test_clean}
 
 -- an idle XOR of both shares of an input is clean in neither domain
 abbrev idle : Circuit

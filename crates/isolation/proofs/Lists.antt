@@ -1,10 +1,10 @@
 -- One more at the end of a list.
 use Rattle.std.proofs.Common.{◌≡◌, ℕ, zero, suc, List, [], ◌∷◌, ◌++◌, length, get_or, refl, ap}
+use lib.Seq.{get_or-append_seam}
 
 module _ {A : Type 0} where
   pub get_or_end : (vs : List A) (a d : A) → get_or (vs ++ (a ∷ [])) (length vs) d ≡ a
-  get_or_end [] a d = refl
-  get_or_end (x ∷ xs) a d = get_or_end xs a d
+  get_or_end vs a d = get_or-append_seam vs a [] d
 
   pub get_or_not_end : (vs : List A) (a d : A) (i : ℕ) → ¬ (i ≡ length vs) → get_or (vs ++ (a ∷ [])) i d ≡ get_or vs i d
   get_or_not_end [] a d zero h = absurd (h refl)

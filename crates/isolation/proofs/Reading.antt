@@ -3,6 +3,7 @@ use Rattle.std.proofs.Common.{◌≡◌, ℕ, zero, suc, ◌+◌, ◌<◌, List,
 use mathlib.Core.Option.{some}
 use lib.ListN.{get_elem?}
 use lib.Seq.{get_or-append_seam}
+use Rattle.std.specs.List.{AllByRecursion}
 use Rattle.netlist.specs.Circuit.{Driver, fresh, stored, looked, Carrier, carried, carry, more_fresh, fresh_after}
 use Rattle.isolation.proofs.Carries.{carry_before}
 
@@ -22,8 +23,7 @@ fresh_before_all (c ∷ cs) (suc j) k h =
     some_is e = cc
 
 abbrev pub AllBelow : ℕ → List ℕ → Type 0
-AllBelow w [] = Unit {0}
-AllBelow w (o ∷ os) = (o < w) × AllBelow w os
+AllBelow w os = AllByRecursion (λ o. o < w) os
 
 module _ {V : Type 0} (A : Carrier V) where
   -- the value on a wire is what its cell makes of some list that has the values on all wires before it

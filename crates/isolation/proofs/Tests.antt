@@ -1,4 +1,4 @@
--- A test by all settings of shares and masks that says just whether a set is clean.
+-- The test by all settings of shares and masks says just whether a set is clean.
 use Rattle.std.proofs.Common.{◌≡◌, ℕ, zero, suc, Bool, true, false, ◌&&◌, eqb, ◌⊎◌, List, [], ◌∷◌, length, replicate, sym, refl, ap, ◌∙◌, subst, inl, inr, arith}
 use lib.ListN.{length-replicate}
 use Rattle.std.proofs.lemmas.Bool.{eqb-true, eq-eqb, and_parts, and_from}
@@ -6,12 +6,8 @@ use Rattle.netlist.specs.Circuit.{Circuit, Wires, mask_count, settled}
 use Rattle.isolation.specs.Sums.{sum}
 use Rattle.isolation.specs.Patterns.{pattern, one_if, same, shares, count}
 use Rattle.isolation.specs.Clean.{Clean}
+use Rattle.isolation.specs.Tests.{every, covered, tests_clean}
 use Rattle.isolation.proofs.Patterns.{same_eq}
-
--- a test that holds of all lists of k bits
-abbrev pub every : ℕ → (List Bool → Bool) → Bool
-every zero f = f []
-every (suc k) f = every k (λ m. f (false ∷ m)) && every k (λ m. f (true ∷ m))
 
 pub every_of : (k : ℕ) (f : List Bool → Bool) → every k f ≡ true → (m : List Bool) → length m ≡ k → f m ≡ true
 every_of zero f h [] l = h
@@ -47,16 +43,7 @@ module _ (c : Circuit) (S : Wires) where
   abbrev at : List Bool → List Bool → List Bool
   at u m = pattern S (settled c u m)
 
-  -- every pattern that arises at u arises equally often at v
-  abbrev pub covered : List Bool → List Bool → Bool
-  covered u v = every (mask_count c) (λ m. eqb (count c S u (at u m)) (count c S v (at u m)))
-
-  -- any shares of the other domain show what all zeros show
-  abbrev pub tests_clean : Bool → Bool
-  tests_clean d = every c.inputs (λ x. every c.inputs (λ y.
-      covered (shares d x y) (shares d x (replicate c.inputs false)) && covered (shares d x (replicate c.inputs false)) (shares d x y)))
-
-  covered_count : (u v : List Bool) → covered u v ≡ true → (q : List Bool) → (count c S u q ≡ 0) ⊎ (count c S u q ≡ count c S v q)
+  covered_count : (u v : List Bool) → covered c S u v ≡ true → (q : List Bool) → (count c S u q ≡ 0) ⊎ (count c S u q ≡ count c S v q)
   covered_count u v h q =
       elim (none_or_one (mask_count c) (λ m. same (at u m) q)) [
         | inl e ↦ inl e
@@ -66,7 +53,7 @@ module _ (c : Circuit) (S : Wires) where
             subst P (same_eq (at u p.0) q p.2) (eqb-true (count c S u (at u p.0)) (count c S v (at u p.0)) t))
       ]
 
-  covered_both : (u v : List Bool) → covered u v ≡ true → covered v u ≡ true → (q : List Bool) → count c S u q ≡ count c S v q
+  covered_both : (u v : List Bool) → covered c S u v ≡ true → covered c S v u ≡ true → (q : List Bool) → count c S u q ≡ count c S v q
   covered_both u v h k q = case (covered_count u v h q) (covered_count v u k q)
     where
       case : (count c S u q ≡ 0) ⊎ (count c S u q ≡ count c S v q) → (count c S v q ≡ 0) ⊎ (count c S v q ≡ count c S u q) → count c S u q ≡ count c S v q
@@ -79,25 +66,25 @@ module _ (c : Circuit) (S : Wires) where
     zeros = replicate c.inputs false
 
     abbrev both : List Bool → List Bool → Bool
-    both x y = covered (shares d x y) (shares d x zeros) && covered (shares d x zeros) (shares d x y)
+    both x y = covered c S (shares d x y) (shares d x zeros) && covered c S (shares d x zeros) (shares d x y)
 
-    pub test_clean : tests_clean d ≡ true → Clean c S d
+    pub test_clean : tests_clean c S d ≡ true → Clean c S d
     test_clean h x y z q hx hy hz = to y hy ∙ sym (to z hz)
       where
         to : (y : List Bool) → length y ≡ c.inputs → count c S (shares d x y) q ≡ count c S (shares d x zeros) q
         to y hy =
             let a = every_of c.inputs (both x) (every_of c.inputs (λ x. every c.inputs (both x)) h x hx) y hy in
-            let p = and_parts (covered (shares d x y) (shares d x zeros)) (covered (shares d x zeros) (shares d x y)) a in
+            let p = and_parts (covered c S (shares d x y) (shares d x zeros)) (covered c S (shares d x zeros) (shares d x y)) a in
             covered_both (shares d x y) (shares d x zeros) p.0 p.1 q
 
-    pub clean_test : Clean c S d → tests_clean d ≡ true
+    pub clean_test : Clean c S d → tests_clean c S d ≡ true
     clean_test h =
         every_from c.inputs (λ x. every c.inputs (both x))
         (λ x hx. every_from c.inputs (both x)
-        (λ y hy. and_from (covered (shares d x y) (shares d x zeros)) (covered (shares d x zeros) (shares d x y))
+        (λ y hy. and_from (covered c S (shares d x y) (shares d x zeros)) (covered c S (shares d x zeros) (shares d x y))
         (half x y zeros hx hy (length-replicate c.inputs false)) (half x zeros y hx (length-replicate c.inputs false) hy)))
       where
-        half : (x y z : List Bool) → length x ≡ c.inputs → length y ≡ c.inputs → length z ≡ c.inputs → covered (shares d x y) (shares d x z) ≡ true
+        half : (x y z : List Bool) → length x ≡ c.inputs → length y ≡ c.inputs → length z ≡ c.inputs → covered c S (shares d x y) (shares d x z) ≡ true
         half x y z hx hy hz =
             every_from (mask_count c) (λ m. eqb (count c S (shares d x y) (at (shares d x y) m)) (count c S (shares d x z) (at (shares d x y) m)))
             (λ m hm. eq-eqb (count c S (shares d x y) (at (shares d x y) m)) (count c S (shares d x z) (at (shares d x y) m)) (h x y z (at (shares d x y) m) hx hy hz))

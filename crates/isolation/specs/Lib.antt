@@ -4,4 +4,5 @@ pub mod Equations
 pub mod Patterns
 pub mod Shifts
 pub mod Sums
+pub mod Tests
 pub mod Theorems

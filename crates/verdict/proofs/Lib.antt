@@ -1,3 +1,4 @@
+pub mod Accepting
 pub mod Examples
 pub mod Judging
 pub mod Masks

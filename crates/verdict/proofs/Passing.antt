@@ -4,10 +4,11 @@ use mathlib.Core.Bool.{beq}
 use Rattle.std.proofs.lemmas.Bool.{leb-true, le-leb, or_cases, or_left, or_right}
 use Rattle.netlist.specs.Circuit.{wire_count, mask_count, seen, number}
 use Rattle.isolation.specs.Patterns.{xor, xors, size}
-use Rattle.isolation.proofs.Tests.{every, every_of, every_from, tests_clean, test_clean, clean_test}
+use Rattle.isolation.specs.Tests.{every, tests_clean}
+use Rattle.isolation.proofs.Tests.{every_of, every_from, test_clean, clean_test}
 use Rattle.block.specs.Blocks.{Whole, output_at}
-use Rattle.verdict.specs.Rules.{circuit_of, output_wire, bundle, settled_at}
-use Rattle.verdict.specs.Stations.{Observation, on_wire, on_outputs, observed, Isolated, RecombinesAt, Station, wires, masks, output, breadth, isolation, Holds}
+use Rattle.verdict.specs.Rules.{circuit_of, output_wire, bundle, settled_at, RecombinesAt}
+use Rattle.verdict.specs.Stations.{Observation, on_wire, on_outputs, observed, Isolated, Station, wires, masks, output, breadth, isolation, Holds}
 use Rattle.verdict.specs.Verdict.{recombines, isolated, passes}
 
 pub beq_eq : (s t : Bool) → beq s t ≡ true → s ≡ t

@@ -3,7 +3,7 @@ use Rattle.std.proofs.Common.{◌≡◌, ℕ, Bool, true, false, cond, ◌&&◌,
 use Rattle.fault.specs.declared.NetlistFault.{NetlistFault}
 use Rattle.netlist.specs.Circuit.{Circuit, Wires, mask_count, settled, seen}
 use Rattle.isolation.specs.Patterns.{pattern, one_if, same, shares, count}
-use Rattle.isolation.proofs.Tests.{every, covered, tests_clean}
+use Rattle.isolation.specs.Tests.{every, covered, tests_clean}
 use Rattle.block.specs.Blocks.{Whole}
 use Rattle.verdict.specs.declared.Acceptance.{Acceptance}
 use Rattle.verdict.specs.Rules.{circuit_of, bundle}

@@ -50,7 +50,7 @@ module _ (b : Whole) where
     (
       h.sizes.1,
       All-append (Holds b) (map output (range_with_len 0 m)) (stations_of (observations b))
-          (all_counted (Holds b) output 0 m (λ c _ u x y k hx hy hk. h.recombination x y k hx hy hk c (omega arith)))
+          (all_counted (Holds b) output 0 m (λ c _ u. h.recombination c (omega arith)))
           (all_ways (Holds b) (observations b)
           (All-append Both (map on_wire (range_with_len 0 W)) (on_outputs false ∷ on_outputs true ∷ [])
           (all_counted Both on_wire 0 W (λ w _ u. h.probes w (omega arith)))
@@ -61,7 +61,7 @@ module _ (b : Whole) where
   pub hold_rules : AllByRecursion (Holds b) (stations b) → Accepted b
   hold_rules h = record {
     sizes = (h.0, h.1.0);
-    recombination = λ x y k hx hy hk c l. counted_all (Holds b) output 0 m rest.0 c (omega arith) (omega arith) x y k hx hy hk;
+    recombination = λ c l. counted_all (Holds b) output 0 m rest.0 c (omega arith) (omega arith);
     probes = λ w l. counted_all Both on_wire 0 W seen.0 w (omega arith) (omega arith);
     bundles = bundles;
   }

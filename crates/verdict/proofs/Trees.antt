@@ -1,7 +1,7 @@
 -- What a function gives for all lists of k bits, computed once and kept.
 use Rattle.std.proofs.Common.{◌≡◌, ℕ, zero, suc, ◌+◌, Bool, true, false, ◌&&◌, List, [], ◌∷◌, replicate, refl, ap}
 use Rattle.isolation.specs.Sums.{sum}
-use Rattle.isolation.proofs.Tests.{every}
+use Rattle.isolation.specs.Tests.{every}
 
 pub data Tree (A : Type 0) : Type 0 where
   leaf : A → Tree A

@@ -32,11 +32,14 @@ settled_at b x y masks w = slice_index_or (settled (circuit_of b) (interleave x 
 abbrev pub Small : Whole → Type 0
 Small b = (wire_count (circuit_of b) ≤ 512) × (mask_count (circuit_of b) ≤ 8)
 
--- recombination: for all shares and masks, the two wires of each output XOR to that output of the table at the XOR of the shares
-abbrev pub Recombines : Whole → Type 0
-Recombines b = (x y masks : List Bool) → length x ≡ b.table.n → length y ≡ b.table.n → length masks ≡ mask_count (circuit_of b)
-    → (c : ℕ) → c < b.table.m
+-- output c recombines: for all shares and masks its two wires XOR to that output of the table at the XOR of the shares
+abbrev pub RecombinesAt : Whole → ℕ → Type 0
+RecombinesAt b c = (x y masks : List Bool) → length x ≡ b.table.n → length y ≡ b.table.n → length masks ≡ mask_count (circuit_of b)
     → xor (settled_at b x y masks (output_wire b false c)) (settled_at b x y masks (output_wire b true c)) ≡ output_at b.table c (number (xors x y))
+
+-- recombination: every output recombines
+abbrev pub Recombines : Whole → Type 0
+Recombines b = (c : ℕ) → c < b.table.m → RecombinesAt b c
 
 -- a set of at most 64 wires
 abbrev pub Narrow : Whole → Wires → Type 0

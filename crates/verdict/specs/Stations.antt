@@ -1,13 +1,12 @@
 -- The rules station by station: each is one test of a block, and a fault names the first station that fails.
-use Rattle.std.specs.Prelude.{◌≡◌, ℕ, zero, suc, ◌+◌, ◌≤◌, Bool, true, false, ◌⊎◌, List, [], ◌∷◌, ◌++◌, map, length}
+use Rattle.std.specs.Prelude.{◌≡◌, ℕ, zero, suc, ◌+◌, ◌≤◌, Bool, true, false, ◌⊎◌, List, [], ◌∷◌, ◌++◌, map}
 use Rattle.std.specs.List.{range_with_len, AllByRecursion}
 use Rattle.fault.specs.declared.NetlistFault.{NetlistFault}
 use Rattle.fault.specs.declared.NetlistFault.TheVariants.{BlockWires, BlockMasks, Recombination, Breadth, Leak}
-use Rattle.netlist.specs.Circuit.{Driver, fresh, stored, looked, Wires, share_count, wire_count, mask_count, seen, bit_of, number}
-use Rattle.isolation.specs.Patterns.{xor, xors}
+use Rattle.netlist.specs.Circuit.{Driver, fresh, stored, looked, Wires, share_count, wire_count, mask_count, seen, bit_of}
 use Rattle.isolation.specs.Clean.{Clean}
-use Rattle.block.specs.Blocks.{Whole, output_at}
-use Rattle.verdict.specs.Rules.{circuit_of, output_wire, bundle, settled_at, Narrow}
+use Rattle.block.specs.Blocks.{Whole}
+use Rattle.verdict.specs.Rules.{circuit_of, bundle, RecombinesAt, Narrow}
 
 -- what is observed: by a probe on a wire, or on all outputs of one domain together
 pub data Observation : Type 0 where
@@ -27,11 +26,6 @@ place b (on_outputs d) = wire_count (circuit_of b) + bit_of d
 abbrev pub Isolated : Whole → Observation → Type 0
 Isolated b (on_wire w) = Clean (circuit_of b) (seen (circuit_of b) w) false ⊎ Clean (circuit_of b) (seen (circuit_of b) w) true
 Isolated b (on_outputs d) = Clean (circuit_of b) (bundle b d) d
-
--- output c recombines: for all shares and masks its two wires XOR to that output of the table at the XOR of the shares
-abbrev pub RecombinesAt : Whole → ℕ → Type 0
-RecombinesAt b c = (x y masks : List Bool) → length x ≡ b.table.n → length y ≡ b.table.n → length masks ≡ mask_count (circuit_of b)
-    → xor (settled_at b x y masks (output_wire b false c)) (settled_at b x y masks (output_wire b true c)) ≡ output_at b.table c (number (xors x y))
 
 pub data Station : Type 0 where
   wires : Station

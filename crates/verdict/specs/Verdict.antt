@@ -1,10 +1,10 @@
 -- The verdict on a block, as a definition that computes.
-use Rattle.std.specs.Prelude.{ℕ, Bool, true, false, cond, ◌||◌, List, [], ◌∷◌, Ok, Err, Result, nat_le}
+use Rattle.std.specs.Prelude.{ℕ, Bool, true, false, cond, ◌||◌, List, [], ◌∷◌, ◌++◌, Ok, Err, Result, nat_le, codes, decimal}
 use Rattle.std.specs.Bool.{beq}
 use Rattle.fault.specs.declared.NetlistFault.{NetlistFault}
 use Rattle.netlist.specs.Circuit.{wire_count, mask_count, seen, number}
 use Rattle.isolation.specs.Patterns.{xor, xors, size}
-use Rattle.isolation.proofs.Tests.{every, tests_clean}
+use Rattle.isolation.specs.Tests.{every, tests_clean}
 use Rattle.block.specs.Blocks.{Whole, output_at}
 use Rattle.verdict.specs.declared.Acceptance.{Acceptance}
 use Rattle.verdict.specs.Rules.{circuit_of, output_wire, bundle, settled_at, latency}
@@ -37,3 +37,7 @@ judged b (s ∷ ss) = cond (passes b s) (judged b ss) (Err (fault_at b s))
 
 abbrev pub verdict : Whole → Result Acceptance NetlistFault
 verdict b = judged b (stations b)
+
+-- the line that a person is shown: wires, masks and latency in decimal
+abbrev pub acceptance_line : Acceptance → List ℕ
+acceptance_line a = codes "accepted, " ++ (decimal a.wires ++ (codes " wires, " ++ (decimal a.masks ++ (codes " masks, latency " ++ decimal a.latency))))

@@ -2,13 +2,13 @@
 use Rattle.std.proofs.Common.{◌≡◌, Bool, true, false, Ok, Err, sym, refl, ◌∙◌}
 use Rattle.std.proofs.lemmas.Bool.{true≢false}
 use Rattle.fault.specs.declared.NetlistFault.TheVariants.{Breadth}
-use Rattle.isolation.proofs.Tests.{tests_clean}
+use Rattle.isolation.specs.Tests.{tests_clean}
 use Rattle.isolation.proofs.Tests.{clean_test}
 use Rattle.block.specs.Blocks.{Whole}
 use Rattle.verdict.specs.Rules.{circuit_of, bundle}
 use Rattle.verdict.proofs.Quick.{quick, quick_verdict}
-use Rattle.ghpc.specs.Ghpc.{ghpc_of}
-use Rattle.ghpc.specs.LowLatency.{low_latency_of}
+use Rattle.constructions.specs.Ghpc.{ghpc_of}
+use Rattle.constructions.specs.LowLatency.{low_latency_of}
 use Rattle.worked.specs.Blocks.{joined_registers, and_table, one_mask, unregistered}
 use Rattle.worked.specs.Examples.{Holds, accepted, refused, leaks}
 

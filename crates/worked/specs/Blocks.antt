@@ -5,7 +5,7 @@ use Rattle.netlist.specs.declared.cell.Kind.{Kind}
 use Rattle.netlist.specs.declared.cell.Kind.TheVariants.{Mask, And, Xor, Reg, Look2}
 use Rattle.netlist.specs.declared.cell.Cell.{Cell}
 use Rattle.block.specs.Blocks.{Table, Whole}
-use Rattle.ghpc.specs.LowLatency.{low_latency_of}
+use Rattle.constructions.specs.LowLatency.{low_latency_of}
 
 abbrev pub gate : Kind → ℕ → ℕ → ℕ → Cell
 gate kind table a b = record { kind = kind; table = table; a = a; b = b; c = 0; d = 0 }

@@ -13,8 +13,8 @@ use Rattle.blockfile.specs.Format.{file_of}
 use Rattle.verdict.specs.declared.Acceptance.{Acceptance}
 use Rattle.verdict.specs.Rules.{circuit_of, bundle}
 use Rattle.verdict.specs.Verdict.{verdict}
-use Rattle.ghpc.specs.Ghpc.{ghpc_of}
-use Rattle.ghpc.specs.LowLatency.{low_latency_of}
+use Rattle.constructions.specs.Ghpc.{ghpc_of}
+use Rattle.constructions.specs.LowLatency.{low_latency_of}
 use Rattle.worked.specs.Blocks.{gate, single, wiring, joined_registers, and_table, present_table, one_mask, unregistered}
 
 -- what is claimed of a block: its verdict; its wires and masks; how long its file is; which wires a probe on a wire sees, in ascending order;

@@ -1,10 +1,10 @@
-use Rattle.std.proofs.Common.{◌≡◌, ◌+◌, ◌*◌, ◌/◌, ◌%◌, ◌^◌, ◌<◌, ◌≤◌, true, eqb, List, [], ◌∷◌, Some, sym, ap, ◌∙◌, arith, pow_mono}
+use Rattle.std.proofs.Common.{◌+◌, ◌*◌, ◌/◌, ◌^◌, ◌<◌, ◌≤◌, true, eqb, List, [], ◌∷◌, Some, sym, ap, ◌∙◌, arith, pow_mono}
 use Rattle.std.proofs.lemmas.Nat.{one_shl}
 use Rattle.netlist.specs.declared.cell.Cell.{Cell}
 use Rattle.netlist.specs.Nets.{nth}
 use Rattle.block.specs.Tables.{tabled, tabled_lawful}
-use Rattle.ghpc.specs.Gates.{look_kind, cell_of, domain_shares, cell_gates}
-use Rattle.ghpc.proofs.TableNumbers.{table_one}
+use Rattle.constructions.specs.Gates.{look_kind, cell_of, domain_shares, cell_gates}
+use Rattle.constructions.proofs.TableNumbers.{table_one}
 use Rattle.ghpc.proofs.gates.selector_cell.Goals as goal
 
 pub overflow_shl-i : goal.overflow_shl-i
@@ -22,11 +22,3 @@ returns-then-k-eq0 c =
     let low : k / 2 < 16 = omega (arith, c.requires.within) in
     let bits = one_shl (k / 2) 16 low ∙ sym (table_one t (k / 2) (omega (arith, c.requires.within))) in
     ap Some (c.look.ensures ∙ ap (λ b. cell_of (look_kind t.n) b (domain_shares t true)) bits) ∙ sym (ap (nth cells) c.if-k-eq0.true)
-
-pub returns-else-k-eq0 : goal.returns-else-k-eq0
-returns-else-k-eq0 c =
-    let t = tabled c.args.table.now in
-    let k = c.args.k in
-    let cells : List Cell = (cell_gates t).look true (λ a. eqb a (k / 2)) ∷ (cell_gates t).reg (c.args.first + 2 * (k / 2)) ∷ [] in
-    let odd : k % 2 ≡ 1 = omega (arith, c.if-k-eq0.false) in
-    ap Some c.gate.ensures ∙ sym (ap (nth cells) odd)

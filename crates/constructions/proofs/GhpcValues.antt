@@ -1,0 +1,107 @@
+-- What each wire of GHPC settles to, and that its outputs recombine.
+use Rattle.std.proofs.Common.{◌≡◌, ℕ, zero, suc, pred, ◌*◌, ◌<◌, Bool, true, false, ◌&&◌, eqb, leb, List, length, get_or, sym, ap, ◌∙◌, ap₂, arith}
+use lib.Bits.{bit_xor}
+use Rattle.std.proofs.lemmas.Bool.{le-leb}
+use Rattle.netlist.specs.Circuit.{number, bit, bits}
+use Rattle.isolation.specs.Patterns.{interleave, xor}
+use Rattle.isolation.proofs.Shares.{length_shares}
+use Rattle.block.specs.Blocks.{Table, LawfulTable, output_at}
+use Rattle.verdict.specs.Rules.{settled_at, in_domain, Recombines}
+use Rattle.constructions.specs.Gates.{argument_count, table_of}
+use Rattle.constructions.specs.Ghpc.{mask, decoded, selector, entry, masked, held, product, term, partial, delayed, output_0, output_1, outputs_of, ghpc_of}
+use Rattle.constructions.specs.GhpcForms.{blinded, Settles}
+use Rattle.constructions.proofs.Rows.{get_or_each}
+use Rattle.constructions.proofs.Numbers.{some_arguments, number_fits, bit_table, look_xor, look_and, number_xors}
+use Rattle.constructions.proofs.Selecting.{up_to_none, up_to_more, selected_one, and_xor, unmasked}
+use Rattle.constructions.proofs.Inputs.{settled_0, settled_1}
+use Rattle.constructions.proofs.GhpcEquations.{on_mask, on_decoded, on_selector, on_entry, on_masked, on_held, on_product, on_term, on_partial, on_delayed, on_output_0}
+
+module _ (t : Table) (l : LawfulTable t) (x y masks : List Bool) (hx : length x ≡ t.n) (hy : length y ≡ t.n) where
+  abbrev value : ℕ → Bool
+  value = settled_at (ghpc_of t) x y masks
+
+  long : length (interleave x y) ≡ 2 * t.n
+  long = length_shares false x y t.n hx hy
+
+  value_mask : (c : ℕ) → c < t.m → value (mask t c) ≡ get_or masks c false
+  value_mask c h = on_mask t l (bits masks) (interleave x y) long c h
+
+  value_decoded : (i : ℕ) → i < argument_count t → value (decoded t i) ≡ eqb (number y) i
+  value_decoded i h =
+      on_decoded t l (bits masks) (interleave x y) long i h
+      ∙ ap (λ s. bit (table_of t (λ a. eqb a i)) (number s)) (settled_1 (ghpc_of t) x y masks hx hy)
+      ∙ bit_table t (λ a. eqb a i) (number y) (number_fits t.n y hy)
+
+  value_selector : (i : ℕ) → i < argument_count t → value (selector t i) ≡ eqb (number y) i
+  value_selector i h = on_selector t l (bits masks) (interleave x y) long i h ∙ value_decoded i h
+
+  module _ (c : ℕ) (h : c < t.m) where
+    value_entry : (i : ℕ) → i < argument_count t → value (entry t c i) ≡ output_at t c (bit_xor (number x) i)
+    value_entry i b =
+        on_entry t l (bits masks) (interleave x y) long c h i b
+        ∙ ap (λ s. bit (table_of t (λ a. output_at t c (bit_xor a i))) (number s)) (settled_0 (ghpc_of t) x y masks hx hy)
+        ∙ bit_table t (λ a. output_at t c (bit_xor a i)) (number x) (number_fits t.n x hx)
+
+    value_masked : (i : ℕ) → i < argument_count t → value (masked t c i) ≡ xor (output_at t c (bit_xor (number x) i)) (get_or masks c false)
+    value_masked i b =
+        on_masked t l (bits masks) (interleave x y) long c h i b
+        ∙ look_xor (value (entry t c i)) (value (mask t c))
+        ∙ ap₂ xor (value_entry i b) (value_mask c h)
+
+    value_held : (i : ℕ) → i < argument_count t → value (held t c i) ≡ xor (output_at t c (bit_xor (number x) i)) (get_or masks c false)
+    value_held i b = on_held t l (bits masks) (interleave x y) long c h i b ∙ value_masked i b
+
+    value_product : (i : ℕ) → i < argument_count t → value (product t c i) ≡ (eqb (number y) i && blinded t x y masks c)
+    value_product i b =
+        on_product t l (bits masks) (interleave x y) long c h i b
+        ∙ look_and (value (selector t i)) (value (held t c i))
+        ∙ ap₂ ◌&&◌ (value_selector i b) (value_held i b)
+        ∙ selected_one (number y) i (λ k. xor (output_at t c (bit_xor (number x) k)) (get_or masks c false))
+
+    value_term : (i : ℕ) → i < argument_count t → value (term t c i) ≡ (eqb (number y) i && blinded t x y masks c)
+    value_term i b = on_term t l (bits masks) (interleave x y) long c h i b ∙ value_product i b
+
+    value_partial : (j : ℕ) → j < argument_count t → value (partial t c j) ≡ (leb (number y) j && blinded t x y masks c)
+    value_partial zero b = value_term 0 b ∙ ap (λ s. s && blinded t x y masks c) (up_to_none (number y))
+    value_partial (suc j) b =
+        on_partial t l (bits masks) (interleave x y) long c h j (omega arith)
+        ∙ look_xor (value (partial t c j)) (value (term t c (suc j)))
+        ∙ ap₂ xor (value_partial j (omega arith)) (value_term (suc j) b)
+        ∙ and_xor (leb (number y) j) (eqb (number y) (suc j)) (blinded t x y masks c)
+        ∙ ap (λ s. s && blinded t x y masks c) (up_to_more (number y) j)
+
+    value_delayed : value (delayed t c) ≡ get_or masks c false
+    value_delayed = on_delayed t l (bits masks) (interleave x y) long c h ∙ value_mask c h
+
+    value_output_0 : value (output_0 t c) ≡ get_or masks c false
+    value_output_0 = on_output_0 t l (bits masks) (interleave x y) long c h ∙ value_delayed
+
+    value_output_1 : value (output_1 t c) ≡ blinded t x y masks c
+    value_output_1 =
+        value_partial (pred (argument_count t)) (omega (arith, some_arguments t))
+        ∙ ap (λ s. s && blinded t x y masks c) (le-leb (number y) (pred (argument_count t)) (omega (arith, number_fits t.n y hy)))
+
+  pub settles : Settles t x y masks
+  settles = record {
+    at_mask = value_mask;
+    at_decoded = value_decoded;
+    at_selector = value_selector;
+    at_entry = λ c i h. value_entry c h i;
+    at_masked = λ c i h. value_masked c h i;
+    at_held = λ c i h. value_held c h i;
+    at_product = λ c i h. value_product c h i;
+    at_term = λ c i h. value_term c h i;
+    at_partial = λ c j h. value_partial c h j;
+    at_delayed = value_delayed;
+    at_output_0 = value_output_0;
+    at_output_1 = value_output_1;
+  }
+
+pub recombines : (t : Table) → LawfulTable t → Recombines (ghpc_of t)
+recombines t l c h x y masks hx hy hm =
+    let s = settles t l x y masks hx hy in
+    let e = get_or_each t.m (outputs_of t) c (0, 0) h in
+    ap₂ (λ u v. xor (settled_at (ghpc_of t) x y masks u) (settled_at (ghpc_of t) x y masks v)) (ap (in_domain false) e) (ap (in_domain true) e)
+    ∙ ap₂ xor (s.at_output_0 c h) (s.at_output_1 c h)
+    ∙ unmasked (get_or masks c false) (output_at t c (bit_xor (number x) (number y)))
+    ∙ ap (output_at t c) (sym (number_xors x y))

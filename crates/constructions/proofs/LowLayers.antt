@@ -1,0 +1,28 @@
+-- GHPC_LL lies in layers.
+use Rattle.std.proofs.Common.{◌+◌, ◌*◌, sym, refl, subst, arith}
+use Rattle.netlist.specs.Circuit.{mask_count}
+use Rattle.block.specs.Blocks.{Table, LawfulTable, net_part}
+use Rattle.verdict.specs.Rules.{circuit_of}
+use Rattle.constructions.specs.Gates.{argument_count, cell_gates}
+use Rattle.constructions.specs.LowLatency.{breadth, output_cells, low_latency_of}
+use Rattle.constructions.specs.Layers.{Layered}
+use Rattle.constructions.proofs.ByNumber.{read_cell}
+use Rattle.constructions.proofs.LowCounts.{masks_low_latency}
+use Rattle.constructions.proofs.LowPlaces.{length_cells, at_outputs}
+use Rattle.constructions.proofs.LowByNumber.{low_latency_by_wire}
+
+module _ (t : Table) where
+  layered : Layered t (low_latency_of t) (t.m * argument_count t) (breadth t) (output_cells t (cell_gates t))
+  layered = record {
+    table = refl;
+    wires = omega (arith, length_cells t (cell_gates t));
+    broad = omega arith;
+    at_masks = λ k h. (low_latency_by_wire t).masks (2 * t.n + k) k refl h;
+    at_selectors = λ k h. (low_latency_by_wire t).selectors (2 * t.n + t.m * argument_count t + k) k refl h;
+    at_outputs = λ c r h b.
+        read_cell (net_part (low_latency_of t)) (2 * t.n + t.m * argument_count t + 2 * argument_count t + (c * breadth t + r)) (t.m * argument_count t + (argument_count t * 2 + (c * breadth t + r)))
+        (output_cells t (cell_gates t) c) r (omega arith) (at_outputs t (cell_gates t) c r h b);
+  }
+
+  pub layered_low_latency : LawfulTable t → Layered t (low_latency_of t) (mask_count (circuit_of (low_latency_of t))) (breadth t) (output_cells t (cell_gates t))
+  layered_low_latency l = subst (λ k. Layered t (low_latency_of t) k (breadth t) (output_cells t (cell_gates t))) (sym (masks_low_latency t l)) layered

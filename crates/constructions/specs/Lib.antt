@@ -1,0 +1,10 @@
+pub mod Chains
+pub mod Gates
+pub mod Ghpc
+pub mod GhpcByWire
+pub mod GhpcForms
+pub mod Layers
+pub mod LowLatency
+pub mod LowLatencyByWire
+pub mod LowLatencyForms
+pub mod Theorems

@@ -1,0 +1,13 @@
+use Rattle.std.proofs.Common.{◌≡◌, ◌+◌, ◌*◌, ap, ◌∙◌, add-mul, one-mul, arith}
+use Rattle.block.specs.Tables.{tabled, tabled_lawful}
+use Rattle.constructions.specs.Ghpc.{breadth}
+use Rattle.ghpc.proofs.GhpcAnswers.{output_made}
+use Rattle.ghpc.proofs.ghpc.OneMaskConstruction.output.Goals as goal
+
+pub returns : goal.returns
+returns c =
+    let t = tabled c.args.table.now in
+    let e : (c.args.c + 1) * c.breadth.result ≡ c.args.c * breadth t + breadth t =
+    ap (λ w. (c.args.c + 1) * w) c.breadth.ensures ∙ add-mul c.args.c 1 (breadth t) ∙ ap (λ x. c.args.c * breadth t + x) (one-mul (breadth t))
+    in
+    output_made t (tabled_lawful c.args.table.now) c.args.c _ c.requires (omega (arith, e, c.of-at.ensures.outputs))

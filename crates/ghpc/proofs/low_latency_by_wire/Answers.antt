@@ -1,5 +1,0 @@
-use Rattle.ghpc.proofs.LowByNumber.{low_latency_by_wire}
-use Rattle.ghpc.proofs.low_latency_by_wire.Goals as goal
-
-pub returns : goal.returns
-returns c = low_latency_by_wire
