@@ -4,9 +4,17 @@ ghost use Rattle.blockfile.specs.Answers.{file_answer};
 ghost use Rattle.lines.specs.Lines.{check_text};
 
 use blockfile::checking::check;
+use blockfile::file_view::FileView;
 use blockfile::file_view::viewing::view;
 use blockfile::writing::write;
+use fault::FieldFault;
 use std::alloc::{AllocError, Global};
+
+// The block in these bytes, or why they are refused.
+pub fn read(bytes: &[u8]) -> Result<FileView<'_>, FieldFault> {
+    check(bytes)?;
+    Ok(view(bytes))
+}
 
 // Whether bytes are a block's file, or why they are refused.
 pub fn check_line(heap: Global, bytes: &[u8]) -> Result<String, AllocError>
