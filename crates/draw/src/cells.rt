@@ -1,5 +1,5 @@
 // Drawing cells and bits.
-ghost use Rattle.std.specs.Prelude.{◌≡◌, ◌%◌};
+ghost use Rattle.std.specs.Prelude.{◌≡◌, ◌+◌, ◌%◌, ◌^◌, ◌<◌, IfOk, length};
 ghost use Rattle.netlist.specs.Cells.{kind_of};
 
 use crate::numbers::Numbers;
@@ -47,7 +47,9 @@ impl Numbers {
         heap: Global,
         first: usize,
         count: usize,
-    ) -> Result<Vec<Cell>, AllocError> {
+    ) -> Result<Vec<Cell>, AllocError>
+        ensures { first + count < 2 ^ 64 → IfOk result (λ cells. length cells.items ≡ count) }
+    {
         (first..first.saturating_add(count))
             .map(|wire| self.draw_cell(wire))
             .collect(heap)
@@ -59,14 +61,18 @@ impl Numbers {
         heap: Global,
         count: usize,
         limit: u8,
-    ) -> Result<Vec<u8>, AllocError> {
+    ) -> Result<Vec<u8>, AllocError>
+        ensures { IfOk result (λ bytes. length bytes.items ≡ count) }
+    {
         (0..count)
             .map(|_| self.below(usize::from(limit)) as u8)
             .collect(heap)
     }
 
     // Draws `count` bytes of 0 or 1.
-    pub fn draw_bits(&mut self, heap: Global, count: usize) -> Result<Vec<u8>, AllocError> {
+    pub fn draw_bits(&mut self, heap: Global, count: usize) -> Result<Vec<u8>, AllocError>
+        ensures { IfOk result (λ bits. length bits.items ≡ count) }
+    {
         self.draw_bytes(heap, count, 2)
     }
 }
