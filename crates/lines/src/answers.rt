@@ -1,4 +1,4 @@
-// What the queries answer, as one line.
+// What the queries answer, as one line. Each query has its own buffer and its own text: one function that takes both as closures would be longer than the three.
 use crate::numbers::{bits, places, spaced};
 use netlist::netlist::Netlist;
 use query::counting::count;
