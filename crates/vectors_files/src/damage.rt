@@ -40,17 +40,24 @@ fn note_parts(
     note(page, label, place, &bytes)
 }
 
-// The file cut to fewer bytes: at every length where it is small, else at drawn ones.
-fn write_cuts(page: &mut Page, file: &[u8]) -> Result<(), AllocError> {
-    let small = file.len() < SMALL_FILE;
-    let count = if small { file.len() } else { DRAWN_CUTS };
-    for turn in 0..count {
-        let len = if small {
-            turn
-        } else {
-            page.numbers.below(file.len())
-        };
-        note(page, "cut", len, part(file, 0..len))?;
+// The file cut to fewer bytes.
+fn write_cut(page: &mut Page, file: &[u8], len: usize) -> Result<(), AllocError> {
+    note(page, "cut", len, part(file, 0..len))
+}
+
+// A small file cut at every length.
+fn write_every_cut(page: &mut Page, file: &[u8]) -> Result<(), AllocError> {
+    for len in 0..file.len() {
+        write_cut(page, file, len)?;
+    }
+    Ok(())
+}
+
+// A large file cut at drawn lengths.
+fn write_drawn_cuts(page: &mut Page, file: &[u8]) -> Result<(), AllocError> {
+    for _ in 0..DRAWN_CUTS {
+        let len = page.numbers.below(file.len());
+        write_cut(page, file, len)?;
     }
     Ok(())
 }
@@ -122,7 +129,11 @@ fn write_double(page: &mut Page, file: &[u8]) -> Result<(), AllocError> {
 // All damaged copies of a file.
 pub fn write_damaged(page: &mut Page, file: &File) -> Result<(), AllocError> {
     let bytes = file.bytes.as_slice();
-    write_cuts(page, bytes)?;
+    if bytes.len() < SMALL_FILE {
+        write_every_cut(page, bytes)?;
+    } else {
+        write_drawn_cuts(page, bytes)?;
+    }
     write_changes(page, bytes)?;
     write_headers(page, file)?;
     write_extension(page, bytes, &[0])?;
