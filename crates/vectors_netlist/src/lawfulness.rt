@@ -1,6 +1,4 @@
 // Whether lists of cells are lawful: drawn ones, damaged ones and long ones.
-ghost use Rattle.std.specs.Prelude.{◌≤◌};
-
 use anyhow::Context;
 use draw::cells::kind_at;
 use draw::page::Page;
@@ -9,8 +7,8 @@ use netlist::cell_list::CellList;
 use std::fmt::Write;
 
 // How the vectors say whether cells are lawful.
-fn yes_or_no(inputs: usize, cells: &[Cell]) -> &'static str {
-    if CellList::check(inputs, cells) {
+fn yes_or_no(inputs: u8, cells: &[Cell]) -> &'static str {
+    if CellList::check(usize::from(inputs), cells) {
         "yes"
     } else {
         "no"
@@ -20,27 +18,24 @@ fn yes_or_no(inputs: usize, cells: &[Cell]) -> &'static str {
 // Writes whether a copy of the cells with one of them damaged, from what it was and its wire, is lawful.
 fn write_damaged<D: FnOnce(Cell, u16) -> Cell>(
     page: &mut Page,
-    inputs: usize,
+    inputs: u8,
     cells: &[Cell],
     label: &str,
     damage: D,
 ) -> anyhow::Result<()>
-    requires few { inputs ≤ 8 }
-    requires callable { D.IsAlwaysCallable damage }
+    requires { D.IsAlwaysCallable damage }
 {
     let index = page.numbers.below(cells.len());
     let mut damaged = cells.to_vec(page.heap())?;
     let cell = damaged.get_mut(index).context("no cell to damage")?;
-    *cell = damage(*cell, u16::try_from(2 * inputs + index)?);
+    *cell = damage(*cell, u16::try_from(2 * usize::from(inputs) + index)?);
     let lawful = yes_or_no(inputs, &damaged);
     writeln!(page.text, "damaged {label} lawful {lawful}")?;
     Ok(())
 }
 
 // Writes whether damaged copies of the cells are lawful, each with one damage. Some are lawful all the same.
-fn write_all_damaged(page: &mut Page, inputs: usize, cells: &[Cell]) -> anyhow::Result<()>
-    requires { inputs ≤ 8 }
-{
+fn write_all_damaged(page: &mut Page, inputs: u8, cells: &[Cell]) -> anyhow::Result<()> {
     write_damaged(
         page,
         inputs,
@@ -81,9 +76,7 @@ fn write_all_damaged(page: &mut Page, inputs: usize, cells: &[Cell]) -> anyhow::
 }
 
 // Writes whether the cells are lawful, with their own number of inputs, with wrong ones, and damaged.
-pub fn write_lawfulness(page: &mut Page, inputs: usize, cells: &[Cell]) -> anyhow::Result<()>
-    requires { inputs ≤ 8 }
-{
+pub fn write_lawfulness(page: &mut Page, inputs: u8, cells: &[Cell]) -> anyhow::Result<()> {
     writeln!(page.text, "lawful {}", yes_or_no(inputs, cells))?;
     for wrong in [0, 9] {
         let lawful = yes_or_no(wrong, cells);

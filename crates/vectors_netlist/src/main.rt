@@ -20,14 +20,18 @@ const NETLISTS: usize = 320;
 // Draws netlist number `index`, of which each sixteenth is long, and writes all about it.
 fn write_netlist(page: &mut Page, index: usize) -> anyhow::Result<()> {
     let heap = page.heap();
-    let inputs = 1 + page.numbers.below(8);
+    let inputs = 1 + page.numbers.below(8) as u8;
     let count = if index % 16 == 15 {
         200 + page.numbers.below(401)
     } else {
         page.numbers.below(41)
     };
-    let cells = page.numbers.draw_cells(heap, 2 * inputs, count)?;
-    let net = CellList::try_new(inputs, &cells).context("the drawn cells are not lawful")?;
+    let cells = page
+        .numbers
+        .draw_cells(heap, 2 * usize::from(inputs), count)?;
+    let net = CellList::try_new(usize::from(inputs), &cells).context(
+        "the drawn cells are not lawful",
+    )?;
     let wires = net.wires();
     let fresh = masks(&net);
     writeln!(
