@@ -11,17 +11,15 @@ const MOST_BYTES: u64 = 65536;
 
 // The number of wires where the bytes are a block's file, else none.
 fn wires(bytes: &[u8]) -> u64 {
-    match check(bytes) {
-        Ok(()) => view(bytes).wires() as u64,
-        Err(_) => 0,
-    }
+    check(bytes).map_or(0, |()| view(bytes).wires() as u64)
 }
 
+// How often to check, by the first argument; not at all where there is none.
 fn repeats(rt: &HostRuntime) -> anyhow::Result<u64> {
-    for word in env::args(rt)?.skip(1) {
-        return Ok(word.as_str().parse::<u64>()?);
+    match env::args(rt)?.nth(1) {
+        Some(word) => Ok(word.parse()?),
+        None => Ok(0),
     }
-    Ok(0)
 }
 
 fn run(rt: &HostRuntime) -> anyhow::Result<()> {

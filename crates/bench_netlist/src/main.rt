@@ -2,7 +2,7 @@
 #![tactic(auto)]
 
 use anyhow::Context;
-use draw::cells::{draw_bits, draw_cells};
+use draw::hash::fnv1a;
 use draw::numbers::Numbers;
 use netlist::cell_list::CellList;
 use netlist::netlist::Netlist;
@@ -19,37 +19,24 @@ const CELLS: usize = 4000;
 
 // The sum of the bytes, modulo 2^64.
 fn total(bytes: &[u8]) -> u64 {
-    let mut sum: u64 = 0;
-    for byte in bytes {
-        sum = sum.wrapping_add(u64::from(*byte));
-    }
-    sum
-}
-
-// The 64-bit FNV-1a hash.
-fn fnv1a(bytes: &[u8]) -> u64 {
-    let mut hash: u64 = 0xcbf29ce484222325;
-    for byte in bytes {
-        hash = (hash ^ u64::from(*byte)).wrapping_mul(0x100000001b3);
-    }
-    hash
+    bytes
+        .iter()
+        .fold(0, |sum: u64, byte| sum.wrapping_add(u64::from(*byte)))
 }
 
 // Settles `repeats` times, with the first given byte toggled before each call. Returns the sum of all wires' values over all calls plus the hash of the final values.
 fn settle_repeatedly(heap: Global, repeats: u64) -> anyhow::Result<u64> {
     let mut numbers = Numbers::new(SEED);
-    let cells = draw_cells(heap, &mut numbers, 2 * INPUTS, CELLS)?;
-    let net = CellList::new(INPUTS, &cells);
-    let mut given = draw_bits(heap, &mut numbers, 2 * INPUTS + masks(&net))?;
+    let cells = numbers.draw_cells(heap, 2 * INPUTS, CELLS)?;
+    let net = CellList::try_new(INPUTS, &cells).context("the drawn cells are not lawful")?;
+    let mut given = numbers.draw_bits(heap, 2 * INPUTS + masks(&net))?;
     let mut values = vec![in heap; 0; net.wires()]?;
     let mut sum: u64 = 0;
     for _ in 0..repeats {
         if let Some(first) = given.first_mut() {
             *first ^= 1;
         }
-        settle(&net, &given, &mut values)
-            .ok()
-            .context("the settling was refused")?;
+        settle(&net, &given, &mut values).context("the settling was refused")?;
         sum = sum.wrapping_add(total(&values));
     }
     Ok(sum.wrapping_add(fnv1a(&values)))
@@ -60,7 +47,7 @@ fn run(rt: &HostRuntime) -> anyhow::Result<()> {
     let repeats = env::args(rt)?
         .nth(1)
         .context("usage: bench_netlist REPEATS")?;
-    let checksum = settle_repeatedly(rt.alloc(), repeats.parse::<u64>()?)?;
+    let checksum = settle_repeatedly(rt.alloc(), repeats.parse()?)?;
     println!(rt; "checksum {checksum}")?;
     Ok(())
 }

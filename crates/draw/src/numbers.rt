@@ -1,5 +1,5 @@
 // The number generator behind all that is drawn.
-ghost use Rattle.std.specs.Prelude.{◌<◌};
+ghost use Rattle.std.specs.Prelude.{◌<◌, max};
 
 // A linear congruential generator over 64 bits of state.
 #[derive(Drop)]
@@ -28,8 +28,15 @@ impl Numbers {
 
     // The next number, reduced modulo `limit`; a limit of 0 counts as 1.
     pub fn below(&mut self, limit: usize) -> usize
-        ensures { 0 < limit → result < limit }
+        ensures { result < max 1 limit }
     {
         self.next() as usize % limit.max(1)
+    }
+
+    // The next number, reduced modulo `limit` where that is at most 65536, else modulo 65536.
+    pub fn below_u16(&mut self, limit: usize) -> u16
+        ensures { result < max 1 limit }
+    {
+        self.below(limit.min(1 << 16)) as u16
     }
 }

@@ -10,17 +10,10 @@ use std::io::Read;
 // The longest input that is read.
 const MOST_BYTES: u64 = 65536;
 
-fn words_of(rt: &HostRuntime) -> anyhow::Result<Vec<String>> {
-    let mut words = Vec::new(rt.alloc());
-    for word in env::args(rt)?.skip(1) {
-        words.push(word)?;
-    }
-    Ok(words)
-}
-
 fn run(rt: &HostRuntime) -> anyhow::Result<()> {
     let heap = rt.alloc();
-    let Some(asked) = read_words(heap, &words_of(rt)?)? else {
+    let words: Vec<String> = env::args(rt)?.skip(1).collect(heap)?;
+    let Some(asked) = read_words(heap, &words)? else {
         rt.print(usage())?;
         return Ok(());
     };

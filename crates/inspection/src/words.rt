@@ -5,7 +5,7 @@ ghost use Rattle.inspection.specs.Words.{typed_bit};
 use std::alloc::{AllocError, Global};
 
 // What is asked of a block.
-#[derive(Drop)]
+#[derive(Debug, Drop, PartialEq, Eq)]
 pub enum Question {
     // all its parts
     List,
@@ -28,15 +28,13 @@ pub fn bit_of(c: u8) -> u8
     }
 }
 
-// The bits of all words after the first.
+// The bits of all words, one after the other.
 fn bits_of(heap: Global, words: &[String]) -> Result<Vec<u8>, AllocError> {
-    let mut bits = Vec::new(heap);
-    for word in words {
-        for c in word.as_bytes() {
-            bits.push(bit_of(*c))?;
-        }
-    }
-    Ok(bits)
+    words
+        .iter()
+        .flat_map(|word| word.as_bytes())
+        .map(|c| bit_of(*c))
+        .collect(heap)
 }
 
 // The question that some words ask, if they ask one.
@@ -44,13 +42,14 @@ pub fn read_words(heap: Global, words: &[String]) -> Result<Option<Question>, Al
     let [first, rest @ ..] = words else {
         return Ok(None);
     };
-    match first.as_str() {
-        "list" => Ok(Some(Question::List)),
-        "counts" => Ok(Some(Question::Counts)),
-        "settle" => Ok(Some(Question::Settle(bits_of(heap, rest)?))),
-        "probe" => Ok(probed(rest)),
-        _ => Ok(None),
-    }
+    let asked = match first.as_str() {
+        "list" => Some(Question::List),
+        "counts" => Some(Question::Counts),
+        "settle" => Some(Question::Settle(bits_of(heap, rest)?)),
+        "probe" => probed(rest),
+        _ => None,
+    };
+    Ok(asked)
 }
 
 // A probe on the wire that the only word names.
@@ -58,8 +57,5 @@ fn probed(words: &[String]) -> Option<Question> {
     let [word] = words else {
         return None;
     };
-    match word.as_str().parse::<usize>() {
-        Ok(wire) => Some(Question::Probe(wire)),
-        Err(_) => None,
-    }
+    word.as_str().parse().ok().map(Question::Probe)
 }

@@ -1,7 +1,9 @@
 -- The lines that a person is shown.
-use Rattle.std.specs.Prelude.{ℕ, List, ◌++◌, codes, decimal}
-use Rattle.fault.specs.declared.Report.{Report}
+use Rattle.std.specs.Prelude.{ℕ, List, Result, Ok, Err, codes}
+use Rattle.fault.specs.declared.FieldFault.{FieldFault}
+use Rattle.fault.specs.Faults.{field_report, refusal_line}
 
--- a refusal: its cause, layer and place in decimal
-abbrev pub refusal_line : Report → List ℕ
-refusal_line r = codes "refused " ++ (decimal r.cause ++ (codes " layer " ++ (decimal r.layer ++ (codes " place " ++ decimal r.place))))
+-- whether a file is accepted, or why it is refused
+abbrev pub check_text : Result Unit FieldFault → List ℕ
+check_text (Ok _) = codes "accepted"
+check_text (Err f) = refusal_line (field_report f)

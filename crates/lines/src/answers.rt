@@ -1,6 +1,5 @@
-// What the queries answer, as one line.
-use crate::numbers::{bits, places, refusal, spaced};
-use fault::Fault;
+// What the queries answer, as one line. Each query has its own buffer and its own text: one function that takes both as closures would be longer than the three.
+use crate::numbers::{bits, places, spaced};
 use netlist::netlist::Netlist;
 use query::counting::count;
 use query::probing::probe;
@@ -16,7 +15,7 @@ pub fn settle_line<N: Netlist>(
     let mut out = vec![in heap; 0u8; netlist.wires()]?;
     match settle(netlist, given, &mut out) {
         Ok(()) => bits(heap, &out),
-        Err(fault) => refusal(heap, fault.report()),
+        Err(fault) => fault.to_string(heap),
     }
 }
 
@@ -29,7 +28,7 @@ pub fn probe_line<N: Netlist>(
     let mut out = vec![in heap; 0u8; netlist.wires()]?;
     match probe(netlist, wire, &mut out) {
         Ok(()) => spaced(heap, &places(heap, &out)?),
-        Err(fault) => refusal(heap, fault.report()),
+        Err(fault) => fault.to_string(heap),
     }
 }
 
@@ -38,6 +37,6 @@ pub fn counts_line<N: Netlist>(heap: Global, netlist: &N) -> Result<String, Allo
     let mut out = vec![in heap; 0u16; netlist.wires()]?;
     match count(netlist, &mut out) {
         Ok(()) => spaced(heap, &out),
-        Err(fault) => refusal(heap, fault.report()),
+        Err(fault) => fault.to_string(heap),
     }
 }

@@ -1,89 +1,53 @@
 // What a block consists of, a line for each part.
 use block::blocks::Block;
-use netlist::cell::{Cell, Kind};
-use netlist::netlist::Netlist;
 use std::alloc::{AllocError, Global};
+use std::fmt;
 
-fn sizes_line<B: Block>(heap: Global, block: &B) -> Result<String, AllocError> {
-    let inputs = block.inputs();
-    let outputs = block.outputs();
-    format!(in heap; "inputs {inputs} outputs {outputs}\n")
-}
+// The parts of a block, a line for each.
+#[derive(Drop)]
+struct Parts<'a, B>(&'a B);
 
-fn table_line<B: Block>(heap: Global, block: &B) -> Result<String, AllocError> {
-    let mut text = String::from_str(heap, "table")?;
-    for argument in 0..16 {
-        if let Some(entry) = block.entry(argument) {
-            text.push(' ')?;
-            text.push_str(entry.to_string(heap)?.as_str())?;
+impl<B: Block> Parts<'_, B> {
+    fn sizes<W: fmt::Write>(&self, f: &mut fmt::Formatter<W>) -> fmt::Result {
+        writeln!(f, "inputs {} outputs {}", self.0.inputs(), self.0.outputs())
+    }
+
+    fn table<W: fmt::Write>(&self, f: &mut fmt::Formatter<W>) -> fmt::Result {
+        f.write_str("table")?;
+        for entry in (0..16).map_while(|argument| self.0.entry(argument)) {
+            write!(f, " {entry}")?;
         }
+        f.write_str("\n")
     }
-    text.push('\n')?;
-    Ok(text)
-}
 
-// The kind, and the table of a look-up in hexadecimal.
-fn kind_text(heap: Global, cell: Cell) -> Result<String, AllocError> {
-    let table = cell.table;
-    match cell.kind {
-        Kind::Mask => String::from_str(heap, "mask"),
-        Kind::Not => String::from_str(heap, "not"),
-        Kind::And => String::from_str(heap, "and"),
-        Kind::Xor => String::from_str(heap, "xor"),
-        Kind::Reg => String::from_str(heap, "reg"),
-        _ => format!(in heap; "look {table:x}"),
-    }
-}
-
-// One operand, if the cell has so many.
-fn push_operand(
-    heap: Global,
-    text: &mut String,
-    wanted: bool,
-    wire: u16,
-) -> Result<(), AllocError> {
-    if wanted {
-        text.push(' ')?;
-        text.push_str(wire.to_string(heap)?.as_str())?;
-    }
-    Ok(())
-}
-
-fn cell_line(heap: Global, wire: usize, cell: Cell) -> Result<String, AllocError> {
-    let kind = kind_text(heap, cell)?;
-    let mut text = format!(in heap; "wire {wire} {kind}")?;
-    let operands = cell.kind.operands();
-    push_operand(heap, &mut text, operands > 0, cell.a)?;
-    push_operand(heap, &mut text, operands > 1, cell.b)?;
-    push_operand(heap, &mut text, operands > 2, cell.c)?;
-    push_operand(heap, &mut text, operands > 3, cell.d)?;
-    text.push('\n')?;
-    Ok(text)
-}
-
-fn push_cells<B: Block>(heap: Global, block: &B, text: &mut String) -> Result<(), AllocError> {
-    for wire in 0..block.wires() {
-        if let Some(cell) = block.cell(wire) {
-            text.push_str(cell_line(heap, wire, cell)?.as_str())?;
+    fn cells<W: fmt::Write>(&self, f: &mut fmt::Formatter<W>) -> fmt::Result {
+        let driven = (0..self.0.wires()).filter_map(|wire| Some((wire, self.0.cell(wire)?)));
+        for (wire, cell) in driven {
+            writeln!(f, "wire {wire} {cell}")?;
         }
+        Ok(())
     }
-    Ok(())
+
+    fn outputs<W: fmt::Write>(&self, f: &mut fmt::Formatter<W>) -> fmt::Result {
+        let pairs = (0..self.0.outputs()).filter_map(|c| self.0.output(c));
+        for (c, (zeroth, first)) in pairs.enumerate() {
+            writeln!(f, "output {c} wires {zeroth} {first}")?;
+        }
+        Ok(())
+    }
 }
 
-fn push_outputs<B: Block>(heap: Global, block: &B, text: &mut String) -> Result<(), AllocError> {
-    for c in 0..block.outputs() {
-        if let Some((zeroth, first)) = block.output(c) {
-            text.push_str(format!(in heap; "output {c} wires {zeroth} {first}\n")?.as_str())?;
-        }
+// The sizes, the table, the cells and the outputs.
+impl<B: Block> fmt::Display for Parts<'_, B> {
+    fn fmt<W: fmt::Write>(&self, f: &mut fmt::Formatter<W>) -> fmt::Result {
+        self.sizes(f)?;
+        self.table(f)?;
+        self.cells(f)?;
+        self.outputs(f)
     }
-    Ok(())
 }
 
 // The sizes, the table, the cells and the outputs.
 pub fn listing<B: Block>(heap: Global, block: &B) -> Result<String, AllocError> {
-    let mut text = sizes_line(heap, block)?;
-    text.push_str(table_line(heap, block)?.as_str())?;
-    push_cells(heap, block, &mut text)?;
-    push_outputs(heap, block, &mut text)?;
-    Ok(text)
+    Parts(block).to_string(heap)
 }

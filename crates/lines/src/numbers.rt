@@ -1,25 +1,23 @@
 // Refusals and rows of numbers.
 ghost use Rattle.std.specs.Prelude.{◌≡◌, IfOk, string_bytes};
-ghost use Rattle.lines.specs.Lines.{refusal_line};
+ghost use Rattle.fault.specs.Faults.{refusal_line};
 
 use fault::Report;
 use std::alloc::{AllocError, Global};
+use std::fmt::Write;
 
 // The line of a refusal, all numbers in decimal.
 pub fn refusal(heap: Global, report: Report) -> Result<String, AllocError>
     ensures { IfOk result (λ s. string_bytes s ≡ refusal_line report) }
 {
-    let cause = report.cause;
-    let layer = report.layer;
-    let place = report.place;
-    format!(in heap; "refused {cause} layer {layer} place {place}")
+    report.to_string(heap)
 }
 
 // Bytes in decimal, one after the other.
 pub fn bits(heap: Global, bytes: &[u8]) -> Result<String, AllocError> {
     let mut text = String::new(heap);
     for b in bytes {
-        text.push_str(b.to_string(heap)?.as_str())?;
+        write!(text, "{b}")?;
     }
     Ok(text)
 }
@@ -28,23 +26,18 @@ pub fn bits(heap: Global, bytes: &[u8]) -> Result<String, AllocError> {
 pub fn spaced(heap: Global, numbers: &[u16]) -> Result<String, AllocError> {
     let mut text = String::new(heap);
     for (i, n) in numbers.iter().enumerate() {
-        if i > 0 {
-            text.push(' ')?;
-        }
-        text.push_str(n.to_string(heap)?.as_str())?;
+        let space = if i > 0 { " " } else { "" };
+        write!(text, "{space}{n}")?;
     }
     Ok(text)
 }
 
-// The places where a byte is 1, ascending.
+// The places where a byte is 1, ascending; each after 65535 counts as 65535.
 pub fn places(heap: Global, bytes: &[u8]) -> Result<Vec<u16>, AllocError> {
-    let mut numbers = Vec::new(heap);
-    let mut place = 0u16;
-    for b in bytes {
-        if *b == 1 {
-            numbers.push(place)?;
-        }
-        place = place.saturating_add(1);
-    }
-    Ok(numbers)
+    bytes
+        .iter()
+        .enumerate()
+        .filter(|(_, b)| **b == 1)
+        .map(|(place, _)| u16::try_from(place).unwrap_or(u16::MAX))
+        .collect(heap)
 }

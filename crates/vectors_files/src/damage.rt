@@ -1,8 +1,11 @@
 // Damaged copies of a file, and what reading them answers.
+use crate::drawing::File;
 use crate::verdict::verdict;
-use draw::numbers::Numbers;
-use std::alloc::{AllocError, Global};
+use draw::bytes::with_byte;
+use draw::page::Page;
+use std::alloc::AllocError;
 use std::fmt::Write;
+use std::ops::Range;
 
 const SMALL_FILE: usize = 400;
 
@@ -12,164 +15,130 @@ const DRAWN_CHANGES: usize = 60;
 
 const DAMAGED_HEADERS: usize = 12;
 
+// The bytes at these places; none where the file is shorter.
+fn part(file: &[u8], places: Range<usize>) -> &[u8] {
+    file.get(places).unwrap_or(&[])
+}
+
 // One line: how the file was damaged, and what reading it answers.
-fn note(
-    out: &mut String,
-    heap: Global,
+fn note(page: &mut Page, label: &str, place: usize, bytes: &[u8]) -> Result<(), AllocError> {
+    let answer = verdict(page.heap(), bytes)?;
+    writeln!(page.text, "{label} {place} {answer}")
+}
+
+// The parts of a file, one after the other.
+fn note_parts(
+    page: &mut Page,
     label: &str,
     place: usize,
-    bytes: &[u8],
-) -> anyhow::Result<()> {
-    let answer = verdict(heap, bytes)?;
-    writeln!(out, "{label} {place} {answer}")?;
-    Ok(())
+    parts: &[&[u8]],
+) -> Result<(), AllocError> {
+    let mut bytes = Vec::new(page.heap());
+    for part in parts {
+        bytes.extend_from_slice(part)?;
+    }
+    note(page, label, place, &bytes)
 }
 
-// The bytes of the file from one place to another, behind those that are there.
-fn push_part(bytes: &mut Vec<u8>, file: &[u8], from: usize, to: usize) -> Result<(), AllocError> {
-    for b in file.iter().skip(from).take(to.saturating_sub(from)) {
-        bytes.push(*b)?;
+// The file cut to fewer bytes.
+fn write_cut(page: &mut Page, file: &[u8], len: usize) -> Result<(), AllocError> {
+    note(page, "cut", len, part(file, 0..len))
+}
+
+// A small file cut at every length.
+fn write_every_cut(page: &mut Page, file: &[u8]) -> Result<(), AllocError> {
+    for len in 0..file.len() {
+        write_cut(page, file, len)?;
     }
     Ok(())
 }
 
-fn prefix(heap: Global, file: &[u8], len: usize) -> Result<Vec<u8>, AllocError> {
-    let mut bytes = Vec::new(heap);
-    push_part(&mut bytes, file, 0, len)?;
-    Ok(bytes)
-}
-
-fn with_byte(heap: Global, file: &[u8], at: usize, value: u8) -> Result<Vec<u8>, AllocError> {
-    let mut bytes = file.to_vec(heap)?;
-    if at < bytes.len() {
-        bytes[at] = value;
-    }
-    Ok(bytes)
-}
-
-// The file cut to fewer bytes: at every length where it is small, else at drawn ones.
-fn write_cuts(
-    out: &mut String,
-    heap: Global,
-    file: &[u8],
-    numbers: &mut Numbers,
-) -> anyhow::Result<()> {
-    let small = file.len() < SMALL_FILE;
-    let count = if small { file.len() } else { DRAWN_CUTS };
-    for turn in 0..count {
-        let len = if small {
-            turn
-        } else {
-            numbers.below(file.len())
-        };
-        note(out, heap, "cut", len, &prefix(heap, file, len)?)?;
+// A large file cut at drawn lengths.
+fn write_drawn_cuts(page: &mut Page, file: &[u8]) -> Result<(), AllocError> {
+    for _ in 0..DRAWN_CUTS {
+        let len = page.numbers.below(file.len());
+        write_cut(page, file, len)?;
     }
     Ok(())
 }
 
 // The file with one byte set to a drawn value.
-fn write_changes(
-    out: &mut String,
-    heap: Global,
-    file: &[u8],
-    numbers: &mut Numbers,
-) -> anyhow::Result<()> {
+fn write_changes(page: &mut Page, file: &[u8]) -> Result<(), AllocError> {
     for _ in 0..DRAWN_CHANGES {
-        let at = numbers.below(file.len());
-        let value = (numbers.below(256) & 0xff) as u8;
-        note(out, heap, "byte", at, &with_byte(heap, file, at, value)?)?;
+        let at = page.numbers.below(file.len());
+        let value = page.numbers.below(256) as u8;
+        note(page, "byte", at, &with_byte(page.heap(), file, at, value)?)?;
     }
     Ok(())
 }
 
 // The file with one more in a byte.
-fn write_increment(
-    out: &mut String,
-    heap: Global,
-    file: &[u8],
-    label: &str,
-    at: usize,
-) -> anyhow::Result<()> {
-    let value = file.get(at).copied().unwrap_or(0).wrapping_add(1);
-    note(out, heap, label, at, &with_byte(heap, file, at, value)?)
+fn write_increment(page: &mut Page, file: &[u8], label: &str, at: usize) -> Result<(), AllocError> {
+    let value = file.get(at).map_or(1, |byte| byte.wrapping_add(1));
+    note(page, label, at, &with_byte(page.heap(), file, at, value)?)
 }
 
 // The file with one more in a tag or in one of the length bytes.
-fn write_headers(
-    out: &mut String,
-    heap: Global,
-    file: &[u8],
-    starts: &[usize],
-) -> anyhow::Result<()> {
-    for start in starts.iter().take(DAMAGED_HEADERS) {
-        write_increment(out, heap, file, "tag", *start)?;
-        write_increment(out, heap, file, "high", start.saturating_add(1))?;
-        write_increment(out, heap, file, "low", start.saturating_add(2))?;
+fn write_headers(page: &mut Page, file: &File) -> Result<(), AllocError> {
+    for start in file.starts.iter().take(DAMAGED_HEADERS) {
+        write_increment(page, &file.bytes, "tag", *start)?;
+        write_increment(page, &file.bytes, "high", start.saturating_add(1))?;
+        write_increment(page, &file.bytes, "low", start.saturating_add(2))?;
     }
     Ok(())
 }
 
 // The file with more bytes after its end.
-fn write_extension(out: &mut String, heap: Global, file: &[u8], tail: &[u8]) -> anyhow::Result<()> {
-    let mut bytes = file.to_vec(heap)?;
-    push_part(&mut bytes, tail, 0, tail.len())?;
-    note(out, heap, "extra", file.len(), &bytes)
+fn write_extension(page: &mut Page, file: &[u8], tail: &[u8]) -> Result<(), AllocError> {
+    note_parts(page, "extra", file.len(), &[file, tail])
 }
 
 // The file with two fields that follow each other swapped; they begin and end at these places.
 fn write_swap(
-    out: &mut String,
-    heap: Global,
+    page: &mut Page,
     file: &[u8],
     first: usize,
     second: usize,
     end: usize,
-) -> anyhow::Result<()> {
-    let mut bytes = Vec::new(heap);
-    push_part(&mut bytes, file, 0, first)?;
-    push_part(&mut bytes, file, second, end)?;
-    push_part(&mut bytes, file, first, second)?;
-    push_part(&mut bytes, file, end, file.len())?;
-    note(out, heap, "swap", first, &bytes)
+) -> Result<(), AllocError> {
+    let parts = [
+        part(file, 0..first),
+        part(file, second..end),
+        part(file, first..second),
+        part(file, end..file.len()),
+    ];
+    note_parts(page, "swap", first, &parts)
 }
 
-// The file with its first field twice.
-fn write_double(out: &mut String, heap: Global, file: &[u8], end: usize) -> anyhow::Result<()> {
-    let mut bytes = prefix(heap, file, end)?;
-    push_part(&mut bytes, file, 0, file.len())?;
-    note(out, heap, "double", 0, &bytes)
-}
-
-// The file with its first two fields swapped, and its first two cells where it has two; `starts` has the places of all fields.
-fn write_swaps(
-    out: &mut String,
-    heap: Global,
-    file: &[u8],
-    starts: &[usize],
-) -> anyhow::Result<()> {
-    if let [first, second, third, ..] = starts {
-        write_swap(out, heap, file, *first, *second, *third)?;
+// The file with its first two fields swapped, and its first two cells where it has two.
+fn write_swaps(page: &mut Page, file: &File) -> Result<(), AllocError> {
+    if let [first, second, third, ..] = file.starts.as_slice() {
+        write_swap(page, &file.bytes, *first, *second, *third)?;
     }
-    if let [_, _, first, second, third, ..] = starts {
-        write_swap(out, heap, file, *first, *second, *third)?;
+    if let [_, _, first, second, third, ..] = file.starts.as_slice() {
+        write_swap(page, &file.bytes, *first, *second, *third)?;
     }
     Ok(())
 }
 
+// The file with its first field, which has five bytes, twice.
+fn write_double(page: &mut Page, file: &[u8]) -> Result<(), AllocError> {
+    note_parts(page, "double", 0, &[part(file, 0..5), file])
+}
+
 // All damaged copies of a file.
-pub fn write_damaged(
-    out: &mut String,
-    heap: Global,
-    file: &[u8],
-    starts: &[usize],
-    numbers: &mut Numbers,
-) -> anyhow::Result<()> {
-    write_cuts(out, heap, file, numbers)?;
-    write_changes(out, heap, file, numbers)?;
-    write_headers(out, heap, file, starts)?;
-    write_extension(out, heap, file, &[0])?;
-    write_extension(out, heap, file, &[4])?;
-    write_extension(out, heap, file, file)?;
-    write_swaps(out, heap, file, starts)?;
-    write_double(out, heap, file, 5)
+pub fn write_damaged(page: &mut Page, file: &File) -> Result<(), AllocError> {
+    let bytes = file.bytes.as_slice();
+    if bytes.len() < SMALL_FILE {
+        write_every_cut(page, bytes)?;
+    } else {
+        write_drawn_cuts(page, bytes)?;
+    }
+    write_changes(page, bytes)?;
+    write_headers(page, file)?;
+    write_extension(page, bytes, &[0])?;
+    write_extension(page, bytes, &[4])?;
+    write_extension(page, bytes, bytes)?;
+    write_swaps(page, file)?;
+    write_double(page, bytes)
 }

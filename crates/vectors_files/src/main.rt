@@ -1,9 +1,10 @@
 // Vectors for block files: short strings, drawn blocks with their files and damaged copies, a few named files, and truth tables.
 #![tactic(auto)]
 
-use crate::drawing::{Drawn, draw_block, push_cell};
-use crate::verdict::{hash, verdict};
-use draw::numbers::Numbers;
+use crate::drawing::{Drawn, File, draw_block};
+use crate::verdict::verdict;
+use draw::hash::fnv1a;
+use draw::page::Page;
 use netlist::cell::{Cell, Kind};
 use std::alloc::{AllocError, Global};
 use std::fmt::Write;
@@ -20,109 +21,82 @@ const BLOCKS: usize = 40;
 
 static IDENTITY: [u8; 17] = [1, 0, 2, 1, 1, 2, 0, 2, 0, 1, 4, 0, 4, 0, 0, 0, 1];
 
-// Where the fields of a drawn file begin.
-fn starts(heap: Global, drawn: &Drawn) -> Result<Vec<usize>, AllocError> {
-    let mut places = vec![in heap; 0usize, 5]?;
-    let mut at = 8usize.saturating_add(1usize.wrapping_shl((drawn.inputs & 7) as u32));
-    for _ in 0..drawn.cells {
-        places.push(at)?;
-        at = at.saturating_add(14);
-    }
-    places.push(at)?;
-    Ok(places)
-}
-
-fn write_block(out: &mut String, heap: Global, index: usize, drawn: &Drawn) -> anyhow::Result<()> {
+fn write_block(page: &mut Page, index: usize, drawn: &Drawn) -> anyhow::Result<()> {
     let inputs = drawn.inputs;
     let outputs = drawn.outputs;
     let cells = drawn.cells;
-    let len = drawn.bytes.len();
-    let sum = hash(&drawn.bytes);
+    let len = drawn.file.bytes.len();
+    let sum = fnv1a(&drawn.file.bytes);
     writeln!(
-        out,
+        page.text,
         "block {index} inputs {inputs} outputs {outputs} cells {cells} bytes {len} sum {sum}"
     )?;
-    let same = format!(in heap; "accepted sum {sum}")?;
-    let told = verdict(heap, &drawn.bytes)?;
+    let told = verdict(page.heap(), &drawn.file.bytes)?;
+    let same = format!(in page.heap(); "accepted sum {sum}")?;
     let line = if told == same {
         "file accepted"
     } else {
         told.as_str()
     };
-    writeln!(out, "{line}")?;
+    writeln!(page.text, "{line}")?;
     Ok(())
 }
 
-// A file of as many masks as are said, behind the sizes and the table of the identity.
+// A file of as many masks as are said, between the sizes and the table of the identity and its outputs.
 fn masks_file(heap: Global, count: usize) -> Result<Vec<u8>, AllocError> {
-    let mut bytes = Vec::new(heap);
-    for b in IDENTITY.iter().take(10) {
-        bytes.push(*b)?;
-    }
-    let mask = Cell {
-        kind: Kind::Mask,
-        table: 0,
-        a: 0,
-        b: 0,
-        c: 0,
-        d: 0,
-    };
+    let (head, tail) = IDENTITY.split_at(10);
+    let mut file = File::new(heap);
+    file.bytes.extend_from_slice(head)?;
     for _ in 0..count {
-        push_cell(&mut bytes, mask)?;
+        file.push_cell(Cell::gate(Kind::Mask, 0, 0))?;
     }
-    for b in IDENTITY.iter().skip(10) {
-        bytes.push(*b)?;
-    }
-    Ok(bytes)
+    file.bytes.extend_from_slice(tail)?;
+    Ok(file.bytes)
 }
 
-fn write_limit(out: &mut String, heap: Global) -> anyhow::Result<()> {
+fn write_limit(page: &mut Page) -> anyhow::Result<()> {
+    let heap = page.heap();
     let file = masks_file(heap, 4094)?;
     let len = file.len();
     let told = verdict(heap, &file)?;
-    writeln!(out, "limit bytes {len} {told}")?;
+    writeln!(page.text, "limit bytes {len} {told}")?;
     let more = verdict(heap, &masks_file(heap, 4095)?)?;
-    writeln!(out, "limit one-more {more}")?;
+    writeln!(page.text, "limit one-more {more}")?;
     Ok(())
 }
 
-fn write_named(out: &mut String, heap: Global) -> anyhow::Result<()> {
+fn write_named(page: &mut Page) -> anyhow::Result<()> {
+    let heap = page.heap();
     let identity = verdict(heap, &IDENTITY)?;
-    writeln!(out, "identity {identity}")?;
+    writeln!(page.text, "identity {identity}")?;
     let mut entry = IDENTITY;
     entry[9] = 2;
     let refused = verdict(heap, &entry)?;
-    writeln!(out, "identity-entry {refused}")?;
+    writeln!(page.text, "identity-entry {refused}")?;
     let empty = verdict(heap, &[])?;
-    writeln!(out, "empty {empty}")?;
+    writeln!(page.text, "empty {empty}")?;
     Ok(())
 }
 
-fn write_numbered(rt: &HostRuntime, numbers: &mut Numbers, index: usize) -> anyhow::Result<()> {
-    let heap = rt.alloc();
-    let mut out = String::new(heap);
-    let drawn = draw_block(heap, numbers, index)?;
-    write_block(&mut out, heap, index, &drawn)?;
-    let places = starts(heap, &drawn)?;
-    damage::write_damaged(&mut out, heap, &drawn.bytes, &places, numbers)?;
-    rt.print(out)?;
+fn write_numbered(page: &mut Page, index: usize) -> anyhow::Result<()> {
+    let drawn = draw_block(page.heap(), &mut page.numbers, index)?;
+    write_block(page, index, &drawn)?;
+    damage::write_damaged(page, &drawn.file)?;
     Ok(())
 }
 
 fn run(rt: &HostRuntime) -> anyhow::Result<()> {
-    let heap = rt.alloc();
-    let mut out = String::new(heap);
-    short::write_short(&mut out)?;
-    rt.print(out)?;
-    let mut numbers = Numbers::new(SEED);
+    let mut page = Page::new(rt.alloc(), SEED);
+    short::write_short(&mut page.text)?;
+    page.print(rt)?;
     for index in 0..BLOCKS {
-        write_numbered(rt, &mut numbers, index)?;
+        write_numbered(&mut page, index)?;
+        page.print(rt)?;
     }
-    let mut rest = String::new(heap);
-    write_limit(&mut rest, heap)?;
-    write_named(&mut rest, heap)?;
-    tables::write_tables(&mut rest, heap, &mut numbers)?;
-    rt.print(rest)?;
+    write_limit(&mut page)?;
+    write_named(&mut page)?;
+    tables::write_tables(&mut page)?;
+    page.print(rt)?;
     Ok(())
 }
 

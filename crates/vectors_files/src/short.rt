@@ -1,110 +1,85 @@
 // All strings of up to two bytes, and some of three.
 use blockfile::checking::check;
 use fault::Fault;
+use std::alloc::AllocError;
 use std::fmt::Write;
+use std::num::Wrapping;
 
 // How many strings of one length were accepted and refused, and a sum over their verdicts.
-#[derive(Drop)]
+#[derive(Drop, Default)]
 struct Tally {
-    index: u64,
-    accepted: u64,
-    refused: u64,
-    sum: u64,
+    accepted: Wrapping<u64>,
+    refused: Wrapping<u64>,
+    sum: Wrapping<u64>,
 }
 
 impl Tally {
-    fn new() -> Tally {
-        Tally {
-            index: 0,
-            accepted: 0,
-            refused: 0,
-            sum: 0,
-        }
-    }
-
     // One string more.
     fn take(&mut self, bytes: &[u8]) {
-        self.sum = self.sum.wrapping_add(self.index % 1000);
-        self.index = self.index.wrapping_add(1);
+        let index = (self.accepted + self.refused).0;
+        self.sum += Wrapping(index % 1000);
         match check(bytes) {
-            Ok(()) => self.accepted = self.accepted.wrapping_add(1),
+            Ok(()) => self.accepted += Wrapping(1),
             Err(fault) => {
-                self.refused = self.refused.wrapping_add(1);
-                let place = fault.place() as u64;
-                let told = u64::from(fault.cause()) * 31;
-                self.sum = self
-                    .sum
-                    .wrapping_add(told)
-                    .wrapping_add(place.wrapping_mul(7));
+                self.refused += Wrapping(1);
+                self.sum += Wrapping(u64::from(fault.cause()) * 31);
+                self.sum += Wrapping(fault.place() as u64) * Wrapping(7);
             }
         }
     }
 
-    fn write_line(&self, out: &mut String, length: usize) -> anyhow::Result<()> {
-        let accepted = self.accepted;
-        let refused = self.refused;
-        let sum = self.sum;
+    fn write_line(&self, text: &mut String, length: usize) -> Result<(), AllocError> {
+        let accepted = self.accepted.0;
+        let refused = self.refused.0;
+        let sum = self.sum.0;
         writeln!(
-            out,
+            text,
             "length {length} accepted {accepted} refused {refused} sum {sum}"
-        )?;
-        Ok(())
+        )
     }
 }
 
-// The strings of two bytes that begin with one.
-fn take_pairs(tally: &mut Tally, first: u8) {
-    for second in 0..=255u8 {
-        tally.take(&[first, second]);
-    }
+fn write_none(text: &mut String) -> Result<(), AllocError> {
+    let mut none = Tally::default();
+    none.take(&[]);
+    none.write_line(text, 0)
 }
 
-fn chosen(b: u8) -> bool {
+fn write_one(text: &mut String) -> Result<(), AllocError> {
+    let mut one = Tally::default();
+    for b in 0..=u8::MAX {
+        one.take(&[b]);
+    }
+    one.write_line(text, 1)
+}
+
+fn write_two(text: &mut String) -> Result<(), AllocError> {
+    let mut two = Tally::default();
+    for pair in 0..=u16::MAX {
+        two.take(&pair.to_be_bytes());
+    }
+    two.write_line(text, 2)
+}
+
+fn is_chosen(b: u8) -> bool {
     b < 5 || b % 5 == 0
 }
 
-// The chosen strings of three bytes that begin with two.
-fn take_triples(tally: &mut Tally, first: u8, second: u8) {
-    for third in 0..=255u8 {
-        if chosen(third) {
-            tally.take(&[first, second, third]);
+// The strings that begin with a byte below 6 and go on with two that are chosen.
+fn write_three(text: &mut String) -> Result<(), AllocError> {
+    let mut three = Tally::default();
+    for triple in 0..6u32 << 16 {
+        let [_, first, second, third] = triple.to_be_bytes();
+        if is_chosen(second) && is_chosen(third) {
+            three.take(&[first, second, third]);
         }
     }
+    three.write_line(text, 3)
 }
 
-fn take_all_triples(tally: &mut Tally, first: u8) {
-    for second in 0..=255u8 {
-        if chosen(second) {
-            take_triples(tally, first, second);
-        }
-    }
-}
-
-fn write_two(out: &mut String) -> anyhow::Result<()> {
-    let mut two = Tally::new();
-    for first in 0..=255u8 {
-        take_pairs(&mut two, first);
-    }
-    two.write_line(out, 2)
-}
-
-fn write_three(out: &mut String) -> anyhow::Result<()> {
-    let mut three = Tally::new();
-    for first in 0..6u8 {
-        take_all_triples(&mut three, first);
-    }
-    three.write_line(out, 3)
-}
-
-pub fn write_short(out: &mut String) -> anyhow::Result<()> {
-    let mut none = Tally::new();
-    none.take(&[]);
-    none.write_line(out, 0)?;
-    let mut one = Tally::new();
-    for b in 0..=255u8 {
-        one.take(&[b]);
-    }
-    one.write_line(out, 1)?;
-    write_two(out)?;
-    write_three(out)
+pub fn write_short(text: &mut String) -> Result<(), AllocError> {
+    write_none(text)?;
+    write_one(text)?;
+    write_two(text)?;
+    write_three(text)
 }

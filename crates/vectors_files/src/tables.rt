@@ -1,103 +1,82 @@
 // Truth tables, lawful and not.
-use crate::drawing::push_drawn;
+use crate::drawing::Table;
 use block::table::TruthTable;
+use draw::bytes::with_byte;
 use draw::numbers::Numbers;
-use fault::Fault;
-use lines::numbers::refusal;
+use draw::page::Page;
 use std::alloc::{AllocError, Global};
 use std::fmt::Write;
 
 const TABLES: usize = 400;
 
 // Sizes and entries that may be anything.
-#[derive(Drop)]
-struct Sizes {
-    inputs: usize,
-    outputs: usize,
-    entries: Vec<u8>,
-}
-
-fn draw_any(heap: Global, numbers: &mut Numbers) -> Result<Sizes, AllocError> {
-    let inputs = numbers.below(6);
-    let outputs = numbers.below(6);
+fn draw_any(heap: Global, numbers: &mut Numbers) -> Result<Table, AllocError> {
+    let inputs = numbers.below(6) as u8;
+    let outputs = numbers.below(6) as u8;
     let count = numbers.below(20);
-    let mut entries = Vec::new(heap);
-    push_drawn(&mut entries, numbers, count, 20)?;
-    Ok(Sizes {
+    Ok(Table {
         inputs,
         outputs,
-        entries,
+        entries: numbers.draw_bytes(heap, count, 20)?,
     })
 }
 
-// A lawful table, but for one entry where `damaged`.
-fn draw_lawful(heap: Global, numbers: &mut Numbers, damaged: bool) -> Result<Sizes, AllocError> {
-    let inputs = 1 + numbers.below(4);
-    let outputs = 1 + numbers.below(4);
-    let mut entries = Vec::new(heap);
-    let count = 1usize.wrapping_shl(inputs as u32);
-    push_drawn(
-        &mut entries,
-        numbers,
-        count,
-        1usize.wrapping_shl(outputs as u32),
-    )?;
-    if damaged {
-        let at = numbers.below(count);
-        let value = (numbers.below(20) & 0xff) as u8;
-        if at < entries.len() {
-            entries[at] = value;
-        }
-    }
-    Ok(Sizes {
+// A lawful table, but for one entry.
+fn draw_damaged(heap: Global, numbers: &mut Numbers) -> Result<Table, AllocError> {
+    let Table {
         inputs,
         outputs,
         entries,
+    } = Table::draw(heap, numbers)?;
+    let at = numbers.below(entries.len());
+    let value = numbers.below(20) as u8;
+    Ok(Table {
+        inputs,
+        outputs,
+        entries: with_byte(heap, &entries, at, value)?,
     })
 }
 
 // An output at every argument.
 fn column(heap: Global, table: &TruthTable, c: usize) -> Result<String, AllocError> {
-    let mut text = String::from_str(heap, " ")?;
-    for argument in 0..1usize.wrapping_shl((table.inputs() & 7) as u32) {
-        text.push(if table.value(c, argument) { '1' } else { '0' })?;
-    }
-    Ok(text)
+    (0..table.arguments())
+        .map(|argument| if table.value(c, argument) { '1' } else { '0' })
+        .collect(heap)
 }
 
 fn columns(heap: Global, table: &TruthTable) -> Result<String, AllocError> {
     let mut text = String::from_str(heap, "accepted")?;
     for c in 0..table.outputs() {
-        text.push_str(column(heap, table, c)?.as_str())?;
+        let column = column(heap, table, c)?;
+        write!(text, " {column}")?;
     }
     Ok(text)
 }
 
-fn answer(heap: Global, drawn: &Sizes) -> Result<String, AllocError> {
-    let mut table = TruthTable::identity();
-    match table.fill(drawn.inputs, drawn.outputs, &drawn.entries) {
-        Ok(()) => columns(heap, &table),
-        Err(fault) => refusal(heap, fault.report()),
-    }
-}
-
-fn write_table(out: &mut String, heap: Global, drawn: &Sizes) -> anyhow::Result<()> {
+fn write_table(page: &mut Page, drawn: &Table) -> Result<(), AllocError> {
     let inputs = drawn.inputs;
     let outputs = drawn.outputs;
     let count = drawn.entries.len();
-    let told = answer(heap, drawn)?;
-    writeln!(out, "table {inputs} {outputs} {count} {told}")?;
-    Ok(())
+    let told = match TruthTable::try_new(
+        usize::from(inputs),
+        usize::from(outputs),
+        &drawn.entries,
+    ) {
+        Ok(table) => columns(page.heap(), &table)?,
+        Err(fault) => fault.to_string(page.heap())?,
+    };
+    writeln!(page.text, "table {inputs} {outputs} {count} {told}")
 }
 
-pub fn write_tables(out: &mut String, heap: Global, numbers: &mut Numbers) -> anyhow::Result<()> {
+pub fn write_tables(page: &mut Page) -> Result<(), AllocError> {
+    let heap = page.heap();
     for turn in 0..TABLES {
-        let drawn = if turn % 2 == 0 {
-            draw_any(heap, numbers)?
-        } else {
-            draw_lawful(heap, numbers, turn % 4 == 3)?
+        let drawn = match turn % 4 {
+            1 => Table::draw(heap, &mut page.numbers)?,
+            3 => draw_damaged(heap, &mut page.numbers)?,
+            _ => draw_any(heap, &mut page.numbers)?,
         };
-        write_table(out, heap, &drawn)?;
+        write_table(page, &drawn)?;
     }
     Ok(())
 }

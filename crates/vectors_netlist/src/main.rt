@@ -1,11 +1,10 @@
 // Vectors for netlists: drawn netlists with the answers to their queries, queries that are refused, and damaged lists of cells.
 #![tactic(auto)]
 
-use draw::cells::draw_cells;
-use draw::numbers::Numbers;
+use anyhow::Context;
+use draw::page::Page;
 use netlist::cell_list::CellList;
 use netlist::netlist::Netlist;
-use std::alloc::Global;
 use std::fmt::Write;
 use traverse::walk::masks;
 
@@ -19,43 +18,40 @@ const SEED: u64 = 1;
 const NETLISTS: usize = 320;
 
 // Draws netlist number `index`, of which each sixteenth is long, and writes all about it.
-fn write_netlist(
-    out: &mut String,
-    heap: Global,
-    numbers: &mut Numbers,
-    index: usize,
-) -> anyhow::Result<()> {
-    let inputs = 1 + numbers.below(8);
+fn write_netlist(page: &mut Page, index: usize) -> anyhow::Result<()> {
+    let heap = page.heap();
+    let inputs = 1 + page.numbers.below(8) as u8;
     let count = if index % 16 == 15 {
-        200 + numbers.below(401)
+        200 + page.numbers.below(401)
     } else {
-        numbers.below(41)
+        page.numbers.below(41)
     };
-    let cells = draw_cells(heap, numbers, 2 * inputs, count)?;
-    let net = CellList::new(inputs, &cells);
+    let cells = page
+        .numbers
+        .draw_cells(heap, 2 * usize::from(inputs), count)?;
+    let net = CellList::try_new(usize::from(inputs), &cells).context(
+        "the drawn cells are not lawful",
+    )?;
     let wires = net.wires();
     let fresh = masks(&net);
     writeln!(
-        out,
+        page.text,
         "netlist {index} inputs {inputs} wires {wires} masks {fresh}"
     )?;
-    let given = answers::write_answers(out, heap, &net, numbers)?;
-    refusals::write_refusals(out, heap, &net, &given, numbers)?;
-    lawfulness::write_lawfulness(out, heap, inputs, &cells, numbers)
+    let given = answers::write_answers(page, &net)?;
+    refusals::write_refusals(page, net, &given)?;
+    lawfulness::write_lawfulness(page, inputs, &cells)
 }
 
 // Prints the vectors, netlist by netlist.
 fn run(rt: &HostRuntime) -> anyhow::Result<()> {
-    let heap = rt.alloc();
-    let mut numbers = Numbers::new(SEED);
+    let mut page = Page::new(rt.alloc(), SEED);
     for index in 0..NETLISTS {
-        let mut out = String::new(heap);
-        write_netlist(&mut out, heap, &mut numbers, index)?;
-        rt.print(out)?;
+        write_netlist(&mut page, index)?;
+        page.print(rt)?;
     }
-    let mut out = String::new(heap);
-    lawfulness::write_long_lists(&mut out, heap)?;
-    rt.print(out)?;
+    lawfulness::write_long_lists(&mut page)?;
+    page.print(rt)?;
     Ok(())
 }
 

@@ -1,120 +1,115 @@
 // Queries that are refused, and leave their buffers as they were.
-ghost use Rattle.std.specs.Prelude.{◌≤◌};
-
-use crate::buffer::{BYTE_FILLER, Buffer, COUNT_FILLER, EXTRA, kept_or_changed};
+use crate::buffer::{BYTE_FILLER, COUNT_FILLER, EXTRA, is_kept_from, kept_or_changed};
 use anyhow::Context;
-use draw::numbers::Numbers;
-use fault::{Fault, NetlistFault};
+use draw::bytes::with_byte;
+use draw::page::Page;
+use fault::NetlistFault;
 use netlist::cell_list::CellList;
 use netlist::netlist::Netlist;
 use query::counting::count;
 use query::probing::probe;
 use query::settling::settle;
-use std::alloc::{AllocError, Global};
+use std::alloc::AllocError;
 use std::fmt::Write;
 
-// A query with its own argument.
+// Where refusals are written, the netlist that is asked, and whether all buffers so far were kept.
 #[derive(Drop)]
-enum Query {
-    Settle(Vec<u8>),
-    Probe(usize),
-    Count,
+struct Refusals<'a> {
+    page: &'a mut Page,
+    net: CellList<'a>,
+    kept: bool,
 }
 
-impl Query {
-    // Asks with a buffer of `len` elements. Returns the answer, and whether the whole buffer was kept.
-    fn ask(
-        &self,
-        heap: Global,
-        net: &CellList<'_>,
+impl Refusals<'_> {
+    // Writes the answer to a query with a buffer of `len` elements.
+    fn write<T, Q>(
+        &mut self,
+        label: &str,
         len: usize,
-    ) -> Result<(Result<(), NetlistFault>, bool), AllocError> {
-        match self {
-            Query::Settle(given) => {
-                let mut buffer = Buffer::filled(heap, len, BYTE_FILLER)?;
-                let answer = settle(net, given, &mut buffer.elements);
-                Ok((answer, buffer.is_kept_from(0)))
-            }
-            Query::Probe(wire) => {
-                let mut buffer = Buffer::filled(heap, len, BYTE_FILLER)?;
-                let answer = probe(net, *wire, &mut buffer.elements);
-                Ok((answer, buffer.is_kept_from(0)))
-            }
-            Query::Count => {
-                let mut buffer = Buffer::filled(heap, len, COUNT_FILLER)?;
-                let answer = count(net, &mut buffer.elements);
-                Ok((answer, buffer.is_kept_from(0)))
-            }
+        filler: T,
+        query: Q,
+    ) -> Result<(), AllocError>
+    where
+        T: Clone + Copy + PartialEq,
+        Q: FnOnce(&mut [T]) -> Result<(), NetlistFault>,
+        requires { Q.IsAlwaysCallable query }
+    {
+        let mut buffer = vec![in self.page.heap(); filler; len]?;
+        match query(&mut buffer) {
+            Err(fault) => writeln!(self.page.text, "{label} {fault}")?,
+            Ok(()) => writeln!(self.page.text, "{label} accepted")?,
         }
+        self.kept &= is_kept_from(&buffer, 0, &filler);
+        Ok(())
+    }
+
+    fn settle(&mut self, label: &str, len: usize, given: &[u8]) -> Result<(), AllocError> {
+        let net = self.net;
+        self.write(label, len, BYTE_FILLER, |out| settle(&net, given, out))
+    }
+
+    fn probe(&mut self, label: &str, len: usize, wire: usize) -> Result<(), AllocError> {
+        let net = self.net;
+        self.write(label, len, BYTE_FILLER, |out| probe(&net, wire, out))
+    }
+
+    fn count(&mut self, label: &str, len: usize) -> Result<(), AllocError> {
+        let net = self.net;
+        self.write(label, len, COUNT_FILLER, |out| count(&net, out))
+    }
+
+    // Settlings with too little memory, or of bytes that are too few or too many. `given` are bytes that settling accepts.
+    fn settle_lengths(&mut self, given: &[u8]) -> anyhow::Result<()> {
+        let heap = self.page.heap();
+        let net = self.net;
+        let wires = net.wires();
+        let (_, few) = given.split_last().context("no bytes were given")?;
+        self.settle("short-settle", wires - 1, given)?;
+        self.settle("short-first", wires - 1, &with_byte(heap, few, 0, 2)?)?;
+        self.settle("few-bytes", wires + EXTRA, few)?;
+        let mut many = given.to_vec(heap)?;
+        many.extend_from_slice(&[9; 3])?;
+        self.settle("many-bytes", wires + EXTRA, &many)?;
+        Ok(())
+    }
+
+    // Settlings of bytes that are no bits: the one at `index`, and the first as well.
+    fn settle_large(&mut self, given: &[u8], index: usize, value: u8) -> anyhow::Result<()> {
+        let heap = self.page.heap();
+        let net = self.net;
+        let ample = net.wires() + EXTRA;
+        let large = with_byte(heap, given, index, value)?;
+        self.settle("large-byte", ample, &large)?;
+        self.settle("two-large", ample, &with_byte(heap, &large, 0, 255)?)?;
+        Ok(())
+    }
+
+    // Probes past the last wire, and queries with too little memory.
+    fn probe_far(&mut self, far: usize) -> anyhow::Result<()> {
+        let net = self.net;
+        let wires = net.wires();
+        self.probe("far-wire", wires + EXTRA, far)?;
+        self.probe("largest-wire", wires + EXTRA, usize::MAX)?;
+        self.probe("short-probe", wires - 1, far)?;
+        self.count("short-count", wires - 1)?;
+        Ok(())
     }
 }
 
-// A copy of the bytes with `value` at `index`.
-fn with_byte(heap: Global, bytes: &[u8], index: usize, value: u8) -> anyhow::Result<Vec<u8>> {
-    let mut copy = bytes.to_vec(heap)?;
-    let place = copy.get_mut(index).context("the list is too short")?;
-    *place = value;
-    Ok(copy)
-}
-
-// The queries to be refused, each with its label and the length of its buffer. `given` are bytes that settling accepts.
-fn draw_refusals(
-    heap: Global,
-    wires: usize,
-    given: &[u8],
-    numbers: &mut Numbers,
-) -> anyhow::Result<[(&'static str, Query, usize); 10]>
-    requires some { 1 ≤ wires }
-    requires few { wires ≤ 4096 }
-{
-    let index = numbers.below(given.len());
-    let value = 2 + numbers.below(254) as u8;
-    let far = wires + numbers.below(100_000);
-
-    let (_, few) = given.split_last().context("no bytes were given")?;
-    let few_and_large = with_byte(heap, few, 0, 2)?;
-    let mut many = given.to_vec(heap)?;
-    many.extend_from_slice(&[9; 3])?;
-    let large = with_byte(heap, given, index, value)?;
-    let two_large = with_byte(heap, &large, 0, 255)?;
-
-    let short = wires - 1;
-    let ample = wires + EXTRA;
-    Ok([
-        ("short-settle", Query::Settle(given.to_vec(heap)?), short),
-        ("short-first", Query::Settle(few_and_large), short),
-        ("few-bytes", Query::Settle(few.to_vec(heap)?), ample),
-        ("many-bytes", Query::Settle(many), ample),
-        ("large-byte", Query::Settle(large), ample),
-        ("two-large", Query::Settle(two_large), ample),
-        ("far-wire", Query::Probe(far), ample),
-        ("largest-wire", Query::Probe(usize::MAX), ample),
-        ("short-probe", Query::Probe(far), short),
-        ("short-count", Query::Count, short),
-    ])
-}
-
-// Writes the refusals, and whether all their buffers were kept.
-pub fn write_refusals(
-    out: &mut String,
-    heap: Global,
-    net: &CellList<'_>,
-    given: &[u8],
-    numbers: &mut Numbers,
-) -> anyhow::Result<()> {
-    let mut all_kept = true;
-    let queries = draw_refusals(heap, net.wires(), given, numbers)?;
-    for (label, query, len) in &queries {
-        let (answer, kept) = query.ask(heap, net, *len)?;
-        match answer {
-            Err(fault) => {
-                let (cause, layer, place) = (fault.cause(), fault.layer(), fault.place());
-                writeln!(out, "{label} refused {cause} layer {layer} place {place}")?;
-            }
-            Ok(()) => writeln!(out, "{label} accepted")?,
-        }
-        all_kept &= kept;
-    }
-    writeln!(out, "buffers {}", kept_or_changed(all_kept))?;
+// Writes the refusals, and whether all their buffers were kept. `given` are bytes that settling accepts.
+pub fn write_refusals(page: &mut Page, net: CellList<'_>, given: &[u8]) -> anyhow::Result<()> {
+    let index = page.numbers.below(given.len());
+    let value = 2 + page.numbers.below(254) as u8;
+    let far = net.wires() + page.numbers.below(100_000);
+    let mut refusals = Refusals {
+        page,
+        net,
+        kept: true,
+    };
+    refusals.settle_lengths(given)?;
+    refusals.settle_large(given, index, value)?;
+    refusals.probe_far(far)?;
+    let kept = kept_or_changed(refusals.kept);
+    writeln!(page.text, "buffers {kept}")?;
     Ok(())
 }
