@@ -1,8 +1,7 @@
 // Checks and views a block file many times over; to be timed from outside.
 #![tactic(auto)]
 
-use blockfile::checking::check;
-use blockfile::file_view::viewing::view;
+use blockfile::file_view::FileView;
 use netlist::netlist::Netlist;
 use std::env;
 use std::io::Read;
@@ -11,7 +10,7 @@ const MOST_BYTES: u64 = 65536;
 
 // The number of wires where the bytes are a block's file, else none.
 fn wires(bytes: &[u8]) -> u64 {
-    check(bytes).map_or(0, |()| view(bytes).wires() as u64)
+    FileView::try_from(bytes).map_or(0, |block| block.wires() as u64)
 }
 
 // How often to check, by the first argument; not at all where there is none.

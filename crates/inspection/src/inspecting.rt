@@ -1,12 +1,12 @@
 // What is asked of a file.
 use crate::answering::answer;
 use crate::words::Question;
-use lines::files::read;
+use blockfile::file_view::FileView;
 use std::alloc::{AllocError, Global};
 
 // What the block in the file answers, or why the file is refused.
 pub fn inspect(heap: Global, bytes: &[u8], asked: &Question) -> Result<String, AllocError> {
-    match read(bytes) {
+    match FileView::try_from(bytes) {
         Ok(block) => answer(heap, &block, asked),
         Err(fault) => format!(in heap; "{fault}\n"),
     }

@@ -1,26 +1,12 @@
 // How a block's file is read and written.
-ghost use Rattle.std.specs.Prelude.{◌≡◌, Err, IfErr, IfOk, is_ok, string_bytes};
+ghost use Rattle.std.specs.Prelude.{◌≡◌, IfOk, string_bytes};
 ghost use Rattle.blockfile.specs.Answers.{file_answer};
-ghost use Rattle.blockfile.specs.Viewing.{block_in};
-ghost use Rattle.blockfile.specs.Views.{viewed};
 ghost use Rattle.lines.specs.Lines.{check_text};
 
 use blockfile::checking::check;
-use blockfile::file_view::FileView;
 use blockfile::file_view::viewing::view;
 use blockfile::writing::write;
-use fault::FieldFault;
 use std::alloc::{AllocError, Global};
-
-// The block in these bytes, or why they are refused.
-pub fn read(bytes: &[u8]) -> Result<FileView<'_>, FieldFault>
-    ensures block { IfOk result (λ v. viewed v ≡ block_in bytes.now) }
-    ensures accepted { is_ok result ≡ is_ok (file_answer bytes.now) }
-    ensures refused { IfErr result (λ fault. file_answer bytes.now ≡ Err fault) }
-{
-    check(bytes)?;
-    Ok(view(bytes))
-}
 
 // Whether bytes are a block's file, or why they are refused.
 pub fn check_line(heap: Global, bytes: &[u8]) -> Result<String, AllocError>

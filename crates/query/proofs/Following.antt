@@ -1,8 +1,7 @@
 -- The steps of marking back over the cells of a netlist.
-use Rattle.std.proofs.Common.{◌≡◌, ℕ, zero, suc, ◌+◌, ◌-◌, ◌*◌, ◌<◌, ◌≤◌, List, [], ◌∷◌, map, length, get_or, drop, set, replicate, sym, ap, ◌∙◌, subst, arith}
+use Rattle.std.proofs.Common.{◌≡◌, ℕ, zero, suc, ◌+◌, ◌-◌, ◌*◌, ◌<◌, List, [], ◌∷◌, map, length, get_or, drop, set, replicate, sym, ap, ◌∙◌, subst, arith}
 use mathlib.Core.Option.{some}
 use lib.ListN.{get_elem?}
-use Rattle.std.proofs.lemmas.List.{drop_more, drop_all}
 use Rattle.std.proofs.lemmas.List.FromFn.{length-map-range_with_len}
 use Rattle.netlist.specs.declared.cell.Kind.{Kind}
 use Rattle.netlist.specs.declared.cell.Kind.TheVariants.{Mask, Not, And, Xor, Reg, Look1, Look2, Look3, Look4}
@@ -12,7 +11,7 @@ use Rattle.netlist.specs.Cells.{driver, driver_of, arity, operand_limit, Fits, n
 use Rattle.netlist.specs.Nets.{Net, net_wires, circuit, CellsFit}
 use Rattle.netlist.proofs.Places.{wires_circuit}
 use Rattle.query.specs.Answers.{probe_bytes}
-use Rattle.query.specs.Marks.{handed_on, followed_back}
+use Rattle.query.specs.Marks.{followed_back}
 use Rattle.query.proofs.Marking.{Below, probed}
 
 kind_below : (k : Kind) (t a b c d w : ℕ) → a < operand_limit w 0 (arity k) → b < operand_limit w 1 (arity k) → c < operand_limit w 2 (arity k) → d < operand_limit w 3 (arity k) → Below w (driver_of k t a b c d)

@@ -1,6 +1,5 @@
 -- The tests that queries begin with.
-use Rattle.std.proofs.Common.{◌≡◌, ℕ, zero, suc, ◌+◌, ◌<◌, ◌≤◌, Bool, true, false, cond, eqb, ltb, List, [], ◌∷◌, ◌++◌, length, get_or, drop, Ok, Err, refl, ap, ◌∙◌, arith, ltb-false, ltb-true, le-ltb, lt-ltb, eqb-true}
-use Rattle.std.proofs.lemmas.List.{drop_more, drop_all}
+use Rattle.std.proofs.Common.{◌≡◌, ℕ, zero, suc, ◌+◌, ◌<◌, ◌≤◌, Bool, true, false, cond, eqb, ltb, List, [], ◌∷◌, ◌++◌, length, get_or, drop, Ok, Err, refl, ap, ◌∙◌, arith, ltb-false, ltb-true, eqb-true}
 use Rattle.fault.specs.declared.NetlistFault.TheVariants.{Bit, Given, Memory, Wire}
 use Rattle.netlist.specs.Circuit.{Circuit, share_count, wire_count, mask_count}
 use Rattle.query.specs.Answers.{Answer, and_then, room_answer, given_answer, bits_answer, wire_answer}

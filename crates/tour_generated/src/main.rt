@@ -7,7 +7,6 @@ use blockfile::writing::write;
 use fault::NetlistFault;
 use ghpc::ghpc::Ghpc;
 use ghpc::low_latency::GhpcLl;
-use ghpc::report::Sizes;
 use lines::answers::{probe_line, settle_line};
 use lines::files::{check_line, rewritten_line};
 use lines::saying::say;
@@ -22,19 +21,10 @@ fn and_table() -> Result<TruthTable, NetlistFault> {
     TruthTable::try_new(2, 1, &[0, 0, 0, 1])
 }
 
-// A block that keeps the four rules, in numbers.
-fn accepted_text(heap: Global, told: Sizes) -> Result<String, AllocError> {
-    let wires = told.wires;
-    let masks = told.masks;
-    let latency = told.latency;
-    format!(in heap; "accepted, {wires} wires, {masks} masks, latency {latency}")
-}
-
 // The low-latency block of a table, in numbers, or why there is none.
 fn low_latency_text(heap: Global, table: TruthTable) -> Result<String, AllocError> {
-    let mut block = GhpcLl::identity();
-    match block.fill(table) {
-        Ok(()) => accepted_text(heap, block.report()),
+    match GhpcLl::try_new(table) {
+        Ok(block) => block.report().to_string(heap),
         Err(fault) => fault.to_string(heap),
     }
 }
@@ -65,8 +55,7 @@ fn run(rt: &HostRuntime) -> anyhow::Result<()> {
     let heap = rt.alloc();
     let table = and_table()?;
     let block = Ghpc::new(table);
-    let accepted = accepted_text(heap, block.report())?;
-    say(rt, "GHPC of the table 0 0 0 1", accepted)?;
+    say(rt, "GHPC of the table 0 0 0 1", block.report())?;
     show_written(rt, &block)?;
     let low_latency = low_latency_text(heap, table)?;
     say(rt, "GHPC_LL of the table 0 0 0 1", low_latency)?;

@@ -2,7 +2,6 @@
 use blockfile::file_view::FileView;
 use blockfile::writing::write;
 use draw::hash::fnv1a;
-use lines::files::read;
 use std::alloc::{AllocError, Global};
 
 // The sum of the file of a block, which has `len` bytes.
@@ -15,7 +14,7 @@ fn written_sum(heap: Global, block: &FileView<'_>, len: usize) -> Result<String,
 }
 
 pub fn verdict(heap: Global, bytes: &[u8]) -> Result<String, AllocError> {
-    match read(bytes) {
+    match FileView::try_from(bytes) {
         Ok(block) => written_sum(heap, &block, bytes.len()),
         Err(fault) => fault.to_string(heap),
     }

@@ -32,13 +32,11 @@ impl fmt::Display for Acceptance {
 }
 
 // A block is accepted just if it meets all rules, and refused with the first fault, in the order of the verdict.
-pub fn verdict_follows_rules() -> u8
+pub fn verdict_follows_rules()
     ensures accepts { AcceptsByRules }
     ensures refuses { RefusesByRules }
     ensures ninth { TellsNinthMask }
-{
-    0
-}
+{}
 
 // How many worked examples there are, each with the verdict that is listed.
 pub fn worked_examples() -> usize
