@@ -49,12 +49,12 @@ def functions(text):
     """The name, the signature with its clauses, and the body of each function."""
     for found in re.finditer(r"^( *)(?:pub(?:\(crate\))? )?fn (\w+)", text, re.M):
         rest = text[found.start() :]
-        brace = re.search(r"^%s\{$| \{$" % found.group(1), rest, re.M)
+        brace = re.search(r"^%s\{\}?$| \{$" % found.group(1), rest, re.M)
         stop = re.search(r";$", rest, re.M)
         if not brace or (stop and stop.start() < brace.start()):
             yield found.group(2), rest[: stop.start()] if stop else rest, ""
             continue
-        end = re.search(r"^%s\}$" % found.group(1), rest, re.M)
+        end = re.search(r"^%s\{?\}$" % found.group(1), rest, re.M)
         yield found.group(2), rest[: brace.start()], rest[brace.start() : end.end() if end else len(rest)]
 
 

@@ -3,7 +3,7 @@ ghost use Rattle.std.specs.Prelude.{◌≡◌, ℕ, ◌^◌, ◌<◌, ◌≤◌,
 
 pub mod filling;
 
-// Entries past the last are zero.
+// Entries past the last are zero: the array is fixed, since the library has no heap.
 #[derive(Clone, Copy, Debug)]
 pub struct TruthTable {
     n: usize,

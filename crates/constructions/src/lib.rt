@@ -1,4 +1,5 @@
 // Two constructions of a block from a truth table, and what holds of every block that they make.
+// Each theorem is a call of its own, also where both constructions have one like it: they speak of other wires.
 #![tactic(auto)]
 
 ghost use Rattle.constructions.specs.Theorems.{GhpcIsLawful, LowLatencyIsLawful, GhpcHasCounts, LowLatencyHasCounts, GhpcRecombines, LowLatencyRecombines, GhpcSettles, LowLatencySettles, GhpcSees, LowLatencySees, GhpcIsAccepted, LowLatencyIsAccepted, GhpcStandsByWire, LowLatencyStandsByWire};

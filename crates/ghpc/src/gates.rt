@@ -65,6 +65,7 @@ pub fn look(table: &TruthTable, domain: bool, bits: u16) -> Cell
     ensures { result ≡ cell_of (look_kind (tabled table.now).n) bits (domain_shares (tabled table.now) domain) }
 {
     let n = table.inputs();
+    // By the number of operands, of which a table has one to four.
     let kind = match n {
         1 => Kind::Look1,
         2 => Kind::Look2,

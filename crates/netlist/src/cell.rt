@@ -24,6 +24,7 @@ pub enum Kind {
 pub struct UnknownKind(pub u8);
 
 // Operands are wire numbers; the parts that the kind does not use are zero.
+// Four fields and no array: in the definitions they are plain numbers, with no length to keep.
 #[derive(Clone, Copy, Debug, PartialEq, Eq)]
 pub struct Cell {
     pub kind: Kind,

@@ -37,6 +37,7 @@ fn mark_seen<N: Netlist>(netlist: &N, wire: usize, marks: &mut [u8])
     marks.fill(0);
     marks[wire] = 1;
     let first = 2 * netlist.inputs();
+    // By number, since a netlist answers by number.
     for w in (first..netlist.wires()).rev() {
         hand_on(cell_of(netlist, w), w, marks);
     }

@@ -70,6 +70,7 @@ fn carry_cells<N: Netlist, V: WireValue>(netlist: &N, given: &[V], out: &mut [V]
 {
     let first = 2 * netlist.inputs();
     let mut fresh = &given[first.min(given.len())..];
+    // By number, since a wire reads those below it in the memory that is being written.
     for wire in first..netlist.wires() {
         out[wire] = drive(cell_of(netlist, wire), &out[..wire], &mut fresh);
     }

@@ -23,6 +23,7 @@ pub trait WireValue: Copy {
         ensures { result ≡ ops.register self };
 
     // A look-up of what the wires carry, of which the first four count.
+    // It takes all values, since a slice of these four would lie in an array, whose size is not proved at a type parameter.
     fn look(table: u16, wires: &[u16], values: &[Self]) -> Self
         ensures { result ≡ ops.look table (carried_on ops.none values.now (take 4 wires.now)) };
 }
