@@ -1,12 +1,10 @@
 // Checks and views a block file many times over; to be timed from outside.
 #![tactic(auto)]
 
-use blockfile::file_view::FileView;
+use blockfile::file_view::{FileView, MOST_BYTES};
 use netlist::netlist::Netlist;
 use std::env;
 use std::io::Read;
-
-const MOST_BYTES: u64 = 65536;
 
 // The number of wires where the bytes are a block's file, else none.
 fn wires(bytes: &[u8]) -> u64 {

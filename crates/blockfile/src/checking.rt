@@ -73,6 +73,7 @@ fn check_body(mut rest: Part<'_>, n: u8, m: u8) -> Result<(), FieldFault>
     ensures { result ≡ forget (body_read (file_size rest.entry) (file_size rest.entry) rest.entry.place (2 * n) m rest.entry.bytes.now) }
 {
     let mut wire = 2 * usize::from(n);
+    // Not a `for` over the wires: how many cells a file has is not known before they are read, and the outputs are checked against that count.
     while cell_due(rest, wire) {
         let cell = rest.open(CELL, CELL_SIZE)?;
         check_cell(cell.payload, wire)?;

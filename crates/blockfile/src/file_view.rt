@@ -6,6 +6,9 @@ ghost use Rattle.blockfile.specs.Viewing.{block_in};
 
 pub mod viewing;
 
+// No block's file is longer: it has at most 8 + 16 + 14 * 4094 + 3 + 16 bytes.
+pub const MOST_BYTES: u64 = 65536;
+
 // The bytes are an accepted file, and so all bounds hold of its block.
 #[derive(Clone, Copy, Debug)]
 pub struct FileView<'a> {

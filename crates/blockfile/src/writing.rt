@@ -60,7 +60,7 @@ fn put_cells<B: Block>(source: &B, out: &mut [u8])
     ensures { out.new ≡ cell_fields (B.block source.now).cells }
 {
     let first = 2 * source.inputs();
-    // Tried over chunks of the memory; the proof did not close, as no contract says what a slice holds once its chunks are written.
+    // Tried over `chunks_exact_mut`, over `as_chunks_mut` and as a walk by `split_at_mut` or `split_first_chunk_mut`: the proof did not close, as nothing says what `out` holds after such a loop.
     for k in 0..cell_count(source) {
         let x = source.cell(first + k).unwrap();
         put(out, CELL_FIELD * k, &cell_field(x));
@@ -74,7 +74,7 @@ fn put_outputs<B: Block>(source: &B, out: &mut [u8])
 {
     let m = source.outputs();
     put(out, 0, &header(OUTPUTS, 4 * m as u16));
-    // Not over chunks either, as for the cells.
+    // Tried over `chunks_exact_mut`, over `as_chunks_mut` and as a walk by `split_at_mut`: as for the cells, nothing says what `out` holds after such a loop.
     for c in 0..m {
         let (zeroth, first) = source.output(c).unwrap();
         put(out, HEADER + 4 * c, &wires(zeroth, first));

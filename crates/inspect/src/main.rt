@@ -1,14 +1,12 @@
 // Shows a person what is in a block file: its parts, what its wires settle to, what a probe sees, its register counts.
 #![tactic(auto)]
 
+use blockfile::file_view::MOST_BYTES;
 use inspection::answering::usage;
 use inspection::inspecting::inspect;
 use inspection::words::read_words;
 use std::env;
 use std::io::Read;
-
-// The longest input that is read.
-const MOST_BYTES: u64 = 65536;
 
 fn run(rt: &HostRuntime) -> anyhow::Result<()> {
     let heap = rt.alloc();

@@ -3,6 +3,7 @@
 
 use crate::drawing::{Drawn, File, draw_block};
 use crate::verdict::verdict;
+use blockfile::file_view::viewing::IDENTITY;
 use draw::hash::fnv1a;
 use draw::page::Page;
 use netlist::cell::{Cell, Kind};
@@ -18,8 +19,6 @@ mod verdict;
 const SEED: u64 = 2;
 
 const BLOCKS: usize = 40;
-
-static IDENTITY: [u8; 17] = [1, 0, 2, 1, 1, 2, 0, 2, 0, 1, 4, 0, 4, 0, 0, 0, 1];
 
 fn write_block(page: &mut Page, index: usize, drawn: &Drawn) -> anyhow::Result<()> {
     let inputs = drawn.inputs;

@@ -14,8 +14,8 @@ use fault::FieldFault;
 use netlist::cell::Cell;
 use netlist::netlist::Netlist;
 
-// One input, which is the output.
-static IDENTITY: [u8; 17] = [1, 0, 2, 1, 1, 2, 0, 2, 0, 1, 4, 0, 4, 0, 0, 0, 1];
+// The file of the identity block: one input, which is the output.
+pub static IDENTITY: [u8; 17] = [1, 0, 2, 1, 1, 2, 0, 2, 0, 1, 4, 0, 4, 0, 0, 0, 1];
 
 // The view of the bytes where they are a block's file; else the first fault, and its place.
 impl<'a> TryFrom<&'a [u8]> for FileView<'a> {
