@@ -5,11 +5,12 @@ use Rattle.std.proofs.lemmas.Bool.{cases_eq}
 use Rattle.std.proofs.lemmas.Grind.{common_steps}
 use Rattle.std.proofs.lemmas.List.{get_or-drop, take-map, map-id, length-take-le, take_at, drop_at}
 use Rattle.netlist.specs.Circuit.{Driver, fresh, stored, looked, Circuit, share_count, wire_count, carried, carry, more_fresh, bits, settled, counts, largest, register_counts, bit, bit_of, number}
-use Rattle.isolation.proofs.Lists.{get_or_end, get_or_not_end}
+use Rattle.isolation.proofs.Lists.{get_or_not_end}
 use Rattle.isolation.proofs.Carries.{length_carry, length_settled, Respects, carry_mapped}
 use Rattle.value.specs.Values.{Ops, lane, lane_ops, count_ops}
 use Rattle.traverse.specs.Carrying.{given_values, filled, carried_from}
-use Rattle.value.proofs.LaneLaws.{lanes_one, lane_lanes, zero_lane}
+use Rattle.netlist.proofs.Bits.{bit_zero}
+use Rattle.value.proofs.LaneLaws.{bit_of_eqb, lanes_one, lane_lanes}
 use Rattle.traverse.proofs.Walks.{length_filled}
 use Rattle.query.specs.Answers.{is_one, settled_bytes, SettledLanes}
 
@@ -21,15 +22,12 @@ module _ {V : Type 0} where
 
 -- bytes that are bits
 
-bit_byte : (b : ℕ) → b < 2 → bit_of (is_one b) ≡ b
-bit_byte b h = grind (arith, common_steps)
-
 bytes_back : (given : List ℕ) → ((k : ℕ) → get_or given k 0 < 2) → map bit_of (map is_one given) ≡ given
 bytes_back [] h = refl
-bytes_back (b ∷ bs) h = grind (arith, bit_byte b (h 0), bytes_back bs (λ k. h (suc k)))
+bytes_back (b ∷ bs) h = grind (arith, bit_of_eqb b (h 0), bytes_back bs (λ k. h (suc k)))
 
 byte_at : (given : List ℕ) → ((k : ℕ) → get_or given k 0 < 2) → (i : ℕ) → bit_of (get_or (map is_one given) i false) ≡ get_or given i 0
-byte_at given h i = ap bit_of (get_or-map is_one given i 0) ∙ bit_byte (get_or given i 0) (h i)
+byte_at given h i = ap bit_of (get_or-map is_one given i 0) ∙ bit_of_eqb (get_or given i 0) (h i)
 
 lowest_back : (vs : List Bool) → map (lane 0) (map bit_of vs) ≡ vs
 lowest_back [] = refl
@@ -67,7 +65,7 @@ length_settled_bytes c given h =
 -- lanes
 
 lane_at : (j : ℕ) (given : List ℕ) (i : ℕ) → lane j (get_or given i 0) ≡ get_or (map (lane j) given) i false
-lane_at j given i = sym (get_or-map (lane j) given i 0) ∙ ap (get_or (map (lane j) given) i) (zero_lane j)
+lane_at j given i = sym (get_or-map (lane j) given i 0) ∙ ap (get_or (map (lane j) given) i) (bit_zero j)
 
 settled_lanes : (c : Circuit) (given : List ℕ) → share_count c ≤ length given → SettledLanes c given (carried_from (lane_ops 64) c given)
 settled_lanes c given long j h =
@@ -83,7 +81,7 @@ settled_lanes c given long j h =
 
     one : Respects (given_values (lane_ops 64) given) (bits (map (lane j) given)) (lane j) 0
     one = record {
-      none = zero_lane j;
+      none = bit_zero j;
       source = λ w k. lane_at j given k ∙ ap (λ i. get_or (map (lane j) given) i false) (sym (zero-add k));
       store = λ w v. refl;
       look = λ t vs. lane_lanes 64 (λ i. bit t (number (map (lane i) vs))) j h;
@@ -128,7 +126,7 @@ carried_bounded (looked t os) k vs b = omega (arith, largest_bounded vs b os)
 
 bounded_push : (vs : List ℕ) (v : ℕ) → Bounded vs → v ≤ suc (length vs) → Bounded (vs ++ (v ∷ []))
 unfolding Bounded
-bounded_push vs v b h i = grind (arith, common_steps, b i, get_or_end, get_or_not_end, cases_eq i (length vs))
+bounded_push vs v b h i = grind (arith, common_steps, b i, get_or_not_end, cases_eq i (length vs))
 
 counts_bounded : (cs : List Driver) (k : ℕ) (vs : List ℕ) → Bounded vs → Bounded (carry counts cs k vs)
 counts_bounded [] k vs b = b
