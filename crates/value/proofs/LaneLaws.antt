@@ -4,7 +4,7 @@ use native.Mathlib.Nat.{pow-succ'}
 use lib.Bits.{bit_and, bit_xor}
 use Rattle.std.specs.Int.{bit_at}
 use Rattle.std.proofs.lemmas.Nat.{mod_below, mul-le, shr_high, shr-shr}
-use Rattle.std.proofs.lemmas.Nat.Bits.{bit_at_lowest, bit_at-zero, bit_at_and, bit_at_xor, bit_at_ones, bit_at-lt, bit_at_cat_low, same_from_bits_below}
+use Rattle.std.proofs.lemmas.Nat.Bits.{bit_at_lowest, bit_at_and, bit_at_xor, bit_at_ones, bit_at-lt, bit_at_cat_low, same_from_bits_below}
 use Rattle.std.proofs.lemmas.Bool.{cases_lt}
 use Rattle.std.proofs.lemmas.Grind.{common_steps}
 use Rattle.netlist.specs.Circuit.{bit_of, number, bit, largest}
@@ -40,9 +40,6 @@ xor_lane j x y = rw (bit_at_xor x y j) (differing_bits (bit_at x j) (bit_at y j)
 -- each lane of the word of 64 ones
 pub ones_lane : (j : ℕ) → j < 64 → lane j 18446744073709551615 ≡ true
 ones_lane j l = ap (λ d. eqb d 1) (bit_at_ones 64 j l)
-
-pub zero_lane : (j : ℕ) → lane j 0 ≡ false
-zero_lane j = ap (λ n. eqb n 1) (bit_at-zero j)
 
 other_bit : (a : ℕ) → a < 2 → eqb ((a + 1) % 2) 1 ≡ bit 1 (number (eqb a 1 ∷ []))
 other_bit a p = grind (arith, common_steps)
