@@ -3,6 +3,7 @@ use Rattle.std.proofs.Common.{◌≡◌, ℕ, zero, suc, ◌+◌, ◌*◌, ◌/�
 use native.Mathlib.Nat.{pow-succ', div-div-eq-div-mul}
 use lib.Bits.{bit_xor, xor_step, xor_zero_r}
 use Rattle.netlist.specs.Circuit.{bit_of, number, bit}
+use Rattle.netlist.proofs.Bits.{bit_zero}
 use Rattle.isolation.specs.Patterns.{xor, xors}
 use Rattle.isolation.proofs.Numbers.{number_below}
 use Rattle.block.specs.Blocks.{Table, LawfulTable}
@@ -21,10 +22,6 @@ bit_more : (b : Bool) (q i : ℕ) → bit (bit_of b + 2 * q) (suc i) ≡ bit q i
 bit_more b q i =
     let t = bit_of b + 2 * q in
     ap (λ x. eqb (x % 2) 1) (ap (λ x. t / x) (pow-succ' 2 i) ∙ sym (div-div-eq-div-mul t 2 (2 ^ i)) ∙ ap (λ x. x / 2 ^ i) (half_of b q))
-
-bit_zero : (i : ℕ) → bit 0 i ≡ false
-bit_zero zero = refl
-bit_zero (suc i) = bit_more false 0 i ∙ bit_zero i
 
 pub bit_number : (l : List Bool) (i : ℕ) → bit (number l) i ≡ get_or l i false
 bit_number [] i = bit_zero i

@@ -1,6 +1,8 @@
 -- What a probe sees determines the value on its wire; a probe sees no wire past the last.
-use Rattle.std.proofs.Common.{◌≡◌, ℕ, zero, suc, ◌+◌, ◌*◌, ◌<◌, ◌≤◌, Bool, true, false, ◌||◌, ◌⊎◌, List, [], ◌∷◌, ◌++◌, map, length, get_or, take, sym, refl, ap, ◌∙◌, subst, inl, inr, add-zero, add-suc, suc-add, zero-add, arith, length-append, length-take, length-take-le, get_or-take, take_at, eq-eqb, eqb-true}
+use Rattle.std.proofs.Common.{◌≡◌, ℕ, zero, suc, ◌+◌, ◌*◌, ◌<◌, ◌≤◌, Bool, true, false, List, [], ◌∷◌, ◌++◌, map, length, get_or, take, sym, refl, ap, ◌∙◌, subst, add-zero, add-suc, suc-add, zero-add, arith, length-append, length-take, length-take-le, get_or-take, take_at, eq-eqb, eqb-true}
 use native.Mathlib.Decide.{dec_lt, ℕ_discrete}
+use Rattle.std.proofs.lemmas.Bool.{or_cases, or_left, or_right}
+use Rattle.std.proofs.lemmas.Grind.{common_steps}
 use lib.ListN.{get_or-eq_default}
 use lib.Seq.{get_or-append_seam}
 use Rattle.netlist.specs.Circuit.{Driver, fresh, stored, looked, Circuit, wire_count, share_count, carried, carry, more_fresh, bits, bit, number, probes, union, Wires, settled, seen, no_wire, alone, alone_from}
@@ -8,18 +10,6 @@ use Rattle.isolation.proofs.Lists.{get_or_not_end}
 use Rattle.isolation.proofs.Carries.{reread, reread_settled, length_carry, carry_extends, length_settled}
 use Rattle.isolation.specs.Agreeing.{Agree}
 use Rattle.isolation.specs.Theorems.{ProbeDeterminesWire}
-
-pub or_cases : (a b : Bool) → (a || b) ≡ true → (a ≡ true) ⊎ (b ≡ true)
-or_cases true b h = inl refl
-or_cases false b h = inr h
-
-pub or_left : (a b : Bool) → a ≡ true → (a || b) ≡ true
-or_left true b h = refl
-or_left false b h = cc
-
-pub or_right : (a b : Bool) → b ≡ true → (a || b) ≡ true
-or_right true b h = refl
-or_right false b h = h
 
 pub self_alone : (w : ℕ) → alone w w ≡ true
 self_alone w = eq-eqb w w refl
@@ -42,18 +32,16 @@ module _ (U V : List Bool) where
       → (Agree s U V → a ≡ b) → Known (rs ++ (a ∷ [])) (us ++ (b ∷ [])) (ss ++ (s ∷ []))
   known_step rs us ss a b s hr hu known new w g = here (ℕ_discrete w (length ss))
     where
+      P : Wires → Type 0
+      P t = Agree t U V
+
       here : Dec (w ≡ length ss) → get_or (rs ++ (a ∷ [])) w false ≡ get_or (us ++ (b ∷ [])) w false
       here (yes e) =
-          let es : get_or (ss ++ (s ∷ [])) w no_wire ≡ s = ap (λ i. get_or (ss ++ (s ∷ [])) i no_wire) e ∙ get_or-append_seam ss s [] no_wire in
-          let P : Wires → Type 0 = λ t. Agree t U V in
-          ap (λ i. get_or (rs ++ (a ∷ [])) i false) (e ∙ sym hr) ∙ get_or-append_seam rs a [] false
-          ∙ new (subst P es g)
-          ∙ sym (ap (λ i. get_or (us ++ (b ∷ [])) i false) (e ∙ sym hu) ∙ get_or-append_seam us b [] false)
+          let same = new (subst P (ap (λ i. get_or (ss ++ (s ∷ [])) i no_wire) e ∙ get_or-append_seam ss s [] no_wire) g) in
+          grind (arith, common_steps)
       here (no e) =
-          let P : Wires → Type 0 = λ t. Agree t U V in
-          get_or_not_end rs a false w (λ f. e (f ∙ hr))
-          ∙ known w (subst P (get_or_not_end ss s no_wire w e) g)
-          ∙ sym (get_or_not_end us b false w (λ f. e (f ∙ hu)))
+          let same = known w (subst P (get_or_not_end ss s no_wire w e) g) in
+          grind (arith, get_or_not_end)
 
   pub known_look : (rs us : List Bool) (ss : List Wires) → Known rs us ss → (os : List ℕ) → Agree (union (map (λ o. get_or ss o no_wire) os)) U V
       → map (λ o. get_or rs o false) os ≡ map (λ o. get_or us o false) os
@@ -121,9 +109,8 @@ abbrev pub Below : List Wires → Type 0
 Below ss = (w v : ℕ) → get_or ss w no_wire v ≡ true → v < length ss
 
 below_look : (ss : List Wires) → Below ss → (os : List ℕ) (v : ℕ) → union (map (λ o. get_or ss o no_wire) os) v ≡ true → v < length ss
-below_look ss below [] v h = let z : ◌≡◌ {A = ℕ} 0 1 = cc in omega arith
-below_look ss below (o ∷ os) v h =
-    elim (or_cases (get_or ss o no_wire v) (union (map (λ o. get_or ss o no_wire) os) v) h) [ inl e ↦ below o v e | inr e ↦ below_look ss below os v e ]
+below_look ss below [] v h = grind (arith, h)
+below_look ss below (o ∷ os) v h = grind (arith, or_cases (get_or ss o no_wire v) (union (map (λ o. get_or ss o no_wire) os) v) h, below o v, below_look ss below os v)
 
 pub below_carry : (cs : List Driver) (k : ℕ) (ss : List Wires) → Below ss → Below (carry probes cs k ss)
 below_carry [] k ss below = below

@@ -1,5 +1,7 @@
 -- A pattern on a set of wires says just what the values on all wires have in common on the set.
-use Rattle.std.proofs.Common.{◌≡◌, ℕ, zero, suc, ◌+◌, Bool, true, false, cond, List, [], ◌∷◌, ◌++◌, map, length, get_or, sym, refl, ap, ◌∙◌, arith}
+use Rattle.std.proofs.Common.{◌≡◌, ℕ, zero, suc, ◌+◌, Bool, true, false, cond, List, [], ◌∷◌, ◌++◌, map, length, get_or, sym, refl, ap, ap₂, ◌∙◌, arith}
+use Rattle.std.specs.Bool.{beq}
+use Rattle.std.proofs.lemmas.Bool.{and_parts}
 use Rattle.std.specs.List.{range_with_len}
 use Rattle.std.proofs.lemmas.List.FromFn.{fill_by_all}
 use Rattle.netlist.specs.Circuit.{Wires}
@@ -83,12 +85,15 @@ put_agrees S (v ∷ vs) (suc w) h = put_agrees (later S) vs w h ∙ ap (λ q. ge
     kept true = refl
     kept false = refl
 
--- the test on lists
+-- the tests on bits and on lists
+pub beq_eq : (s t : Bool) → beq s t ≡ true → s ≡ t
+beq_eq true true h = refl
+beq_eq true false h = sym h
+beq_eq false true h = h
+beq_eq false false h = refl
+
 pub same_eq : (a b : List Bool) → same a b ≡ true → a ≡ b
 same_eq [] [] h = refl
-same_eq [] (y ∷ b) h = let z : ◌≡◌ {A = ℕ} 0 1 = cc in absurd (omega arith)
-same_eq (x ∷ a) [] h = let z : ◌≡◌ {A = ℕ} 0 1 = cc in absurd (omega arith)
-same_eq (true ∷ a) (true ∷ b) h = ap (λ l. true ∷ l) (same_eq a b h)
-same_eq (true ∷ a) (false ∷ b) h = let z : ◌≡◌ {A = ℕ} 0 1 = cc in absurd (omega arith)
-same_eq (false ∷ a) (true ∷ b) h = let z : ◌≡◌ {A = ℕ} 0 1 = cc in absurd (omega arith)
-same_eq (false ∷ a) (false ∷ b) h = ap (λ l. false ∷ l) (same_eq a b h)
+same_eq [] (y ∷ b) h = grind arith
+same_eq (x ∷ a) [] h = grind arith
+same_eq (x ∷ a) (y ∷ b) h = let p = and_parts (beq x y) (same a b) h in ap₂ (λ z l. z ∷ l) (beq_eq x y p.0) (same_eq a b p.1)

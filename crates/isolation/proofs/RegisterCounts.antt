@@ -12,10 +12,10 @@ register_count_share c w h =
 
 pub largest_append : (xs ys : List ℕ) → largest (xs ++ ys) ≡ max (largest xs) (largest ys)
 largest_append [] ys = omega arith
-largest_append (x ∷ xs) ys = let r = largest_append xs ys in omega arith
+largest_append (x ∷ xs) ys = omega (arith, largest_append xs ys)
 
 -- of numbers that are all the same, that one
 pub largest_all : (n : ℕ) (xs : List ℕ) → 1 ≤ length xs → AllByRecursion (λ x. x ≡ n) xs → largest xs ≡ n
 largest_all n [] l h = absurd (omega arith)
 largest_all n (x ∷ []) l h = omega (arith, h.0)
-largest_all n (x ∷ y ∷ xs) l h = let r = largest_all n (y ∷ xs) (omega arith) h.1 in omega (arith, h.0)
+largest_all n (x ∷ y ∷ xs) l h = omega (arith, h.0, largest_all n (y ∷ xs) (omega arith) h.1)

@@ -1,9 +1,9 @@
 -- Sets of wires given by lists: their unions, what holds of each of their wires, and how many there are.
-use Rattle.std.proofs.Common.{◌≡◌, ℕ, zero, suc, ◌+◌, ◌≤◌, Bool, true, false, ◌||◌, eqb, List, [], ◌∷◌, ◌++◌, map, length, sym, refl, ap, ◌∙◌, subst, ap₂, arith}
+use Rattle.std.proofs.Common.{◌≡◌, ℕ, zero, suc, ◌+◌, ◌≤◌, Bool, true, false, ◌||◌, eqb, List, [], ◌∷◌, ◌++◌, map, length, sym, refl, ap, ◌∙◌, subst, ap₂, inl, inr, arith}
 use mathlib.Core.Path.{fun_ext}
 use mathlib.Core.Bool.{or-false, or_assoc}
 use Rattle.std.specs.List.{flat_map as concat, AllByRecursion}
-use Rattle.std.proofs.lemmas.Bool.{eqb-true, ne_eqb}
+use Rattle.std.proofs.lemmas.Bool.{eqb-true, ne_eqb, or_cases}
 use Rattle.netlist.specs.Circuit.{Wires, no_wire, alone, union}
 use Rattle.isolation.specs.Patterns.{one_if, size}
 
@@ -29,12 +29,12 @@ union_concat sees g (x ∷ xs) h =
 
 -- what holds of each wire of the list holds of each wire of the set
 pub all_among : (P : ℕ → Type 0) (ws : List ℕ) → AllByRecursion P ws → (v : ℕ) → among ws v ≡ true → P v
-all_among P [] h v t = let z : ◌≡◌ {A = ℕ} 0 1 = cc in absurd (omega arith)
-all_among P (w ∷ ws) h v t = go (alone w v) refl t (all_among P ws h.1 v)
-  where
-    go : (b : Bool) → alone w v ≡ b → (b || among ws v) ≡ true → (among ws v ≡ true → P v) → P v
-    go true e t r = subst P (sym (eqb-true v w e)) h.0
-    go false e t r = r t
+all_among P [] h v t = grind arith
+all_among P (w ∷ ws) h v t =
+    elim (or_cases (alone w v) (among ws v) t) [
+      | inl e ↦ subst P (sym (eqb-true v w e)) h.0
+      | inr e ↦ all_among P ws h.1 v e
+    ]
 
 -- a set is no larger than its list
 size_past : (n w : ℕ) → n ≤ w → size n (alone w) ≡ 0

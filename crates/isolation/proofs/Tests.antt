@@ -30,14 +30,11 @@ none_or_one zero f = case (f []) refl
     case : (b : Bool) → f [] ≡ b → (one_if (f []) ≡ 0) ⊎ ((m : List Bool) × (length m ≡ 0) × (f m ≡ true))
     case true e = inr ([], refl, e)
     case false e = inl (ap one_if e)
-none_or_one (suc k) f = case (none_or_one k (λ m. f (false ∷ m))) (none_or_one k (λ m. f (true ∷ m)))
-  where
-    case : ((sum k (λ m. one_if (f (false ∷ m))) ≡ 0) ⊎ ((m : List Bool) × (length m ≡ k) × (f (false ∷ m) ≡ true)))
-        → ((sum k (λ m. one_if (f (true ∷ m))) ≡ 0) ⊎ ((m : List Bool) × (length m ≡ k) × (f (true ∷ m) ≡ true)))
-        → (sum (suc k) (λ m. one_if (f m)) ≡ 0) ⊎ ((m : List Bool) × (length m ≡ suc k) × (f m ≡ true))
-    case (inr p) b = inr (false ∷ p.0, ap suc p.1, p.2)
-    case (inl a) (inr p) = inr (true ∷ p.0, ap suc p.1, p.2)
-    case (inl a) (inl b) = inl (omega arith)
+none_or_one (suc k) f =
+    elim (none_or_one k (λ m. f (false ∷ m))) [
+      | inr p ↦ inr (false ∷ p.0, ap suc p.1, p.2)
+      | inl a ↦ elim (none_or_one k (λ m. f (true ∷ m))) [ inr p ↦ inr (true ∷ p.0, ap suc p.1, p.2) | inl b ↦ inl (omega arith) ]
+    ]
 
 module _ (c : Circuit) (S : Wires) where
   abbrev at : List Bool → List Bool → List Bool
@@ -54,12 +51,7 @@ module _ (c : Circuit) (S : Wires) where
       ]
 
   covered_both : (u v : List Bool) → covered c S u v ≡ true → covered c S v u ≡ true → (q : List Bool) → count c S u q ≡ count c S v q
-  covered_both u v h k q = case (covered_count u v h q) (covered_count v u k q)
-    where
-      case : (count c S u q ≡ 0) ⊎ (count c S u q ≡ count c S v q) → (count c S v q ≡ 0) ⊎ (count c S v q ≡ count c S u q) → count c S u q ≡ count c S v q
-      case (inr e) b = e
-      case (inl a) (inl b) = a ∙ sym b
-      case (inl a) (inr b) = sym b
+  covered_both u v h k q = grind (arith, covered_count u v h q, covered_count v u k q)
 
   module _ (d : Bool) where
     abbrev zeros : List Bool

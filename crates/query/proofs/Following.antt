@@ -29,9 +29,9 @@ fits_driver : (w : ℕ) (x : Cell) → Fits w x → Below w (driver x)
 fits_driver w x f = kind_below x.kind x.table x.a x.b x.c x.d w f.1 f.2 f.3 f.4
 
 driver_at : (cells : List Cell) (j : ℕ) (d : Driver) → get_elem? (map driver cells) j ≡ some d → (j < length cells) × (d ≡ driver (get_or cells j no_cell))
-driver_at [] j d e = let z : ◌≡◌ {A = ℕ} 0 1 = cc in absurd (omega arith)
+driver_at [] j d e = grind arith
 driver_at (x ∷ xs) zero d e = (omega arith, cc)
-driver_at (x ∷ xs) (suc j) d e = let r = driver_at xs j d e in (omega (arith, r.0), r.1)
+driver_at (x ∷ xs) (suc j) d e = grind (arith, driver_at xs j d e)
 
 -- a lawful netlist's operands lie below their own wires
 pub operands_below : (net : Net) → CellsFit net.inputs net.cells → (j : ℕ) (d : Driver) → get_elem? (map driver net.cells) j ≡ some d → Below (2 * net.inputs + j) d

@@ -1,14 +1,16 @@
 -- What the traversal gives for bits, lanes and counts is what the definitions say.
-use Rattle.std.proofs.Common.{◌≡◌, ℕ, zero, suc, ◌+◌, ◌<◌, ◌≤◌, min, Bool, true, false, List, [], ◌∷◌, ◌++◌, map, length, get_or, take, drop, replicate, sym, refl, ap, ◌∙◌, add-zero, zero-add, arith, length-append}
-use native.Mathlib.Decide.{ℕ_discrete}
-use lib.ListN.{length-map, length-replicate}
+use Rattle.std.proofs.Common.{◌≡◌, ℕ, zero, suc, ◌+◌, ◌<◌, ◌≤◌, min, Bool, true, false, List, [], ◌∷◌, ◌++◌, map, length, get_or, take, drop, replicate, sym, refl, ap, ◌∙◌, add-zero, zero-add, arith}
+use lib.ListN.{length-map, length-replicate, get_or-map}
+use Rattle.std.proofs.lemmas.Bool.{cases_eq}
+use Rattle.std.proofs.lemmas.Grind.{common_steps}
 use Rattle.std.proofs.lemmas.List.{get_or-drop, take-map, map-id, length-take-le, take_at, drop_at}
 use Rattle.netlist.specs.Circuit.{Driver, fresh, stored, looked, Circuit, share_count, wire_count, carried, carry, more_fresh, bits, settled, counts, largest, register_counts, bit, bit_of, number}
-use Rattle.isolation.proofs.Lists.{get_or_end, get_or_not_end}
+use Rattle.isolation.proofs.Lists.{get_or_not_end}
 use Rattle.isolation.proofs.Carries.{length_carry, length_settled, Respects, carry_mapped}
 use Rattle.value.specs.Values.{Ops, lane, lane_ops, count_ops}
 use Rattle.traverse.specs.Carrying.{given_values, filled, carried_from}
-use Rattle.value.proofs.LaneLaws.{lanes_one, lane_lanes, zero_lane}
+use Rattle.netlist.proofs.Bits.{bit_zero}
+use Rattle.value.proofs.LaneLaws.{bit_of_eqb, lanes_one, lane_lanes}
 use Rattle.traverse.proofs.Walks.{length_filled}
 use Rattle.query.specs.Answers.{is_one, settled_bytes, SettledLanes}
 
@@ -20,33 +22,17 @@ module _ {V : Type 0} where
 
 -- bytes that are bits
 
-bit_byte : (b : ℕ) → b < 2 → bit_of (is_one b) ≡ b
-bit_byte zero h = refl
-bit_byte (suc zero) h = refl
-bit_byte (suc (suc b)) h = absurd (omega arith)
-
 bytes_back : (given : List ℕ) → ((k : ℕ) → get_or given k 0 < 2) → map bit_of (map is_one given) ≡ given
 bytes_back [] h = refl
-bytes_back (b ∷ bs) h =
-    let x = bit_byte b (h 0) in
-    let y = bytes_back bs (λ k. h (suc k)) in
-    cc
+bytes_back (b ∷ bs) h = grind (arith, bit_of_eqb b (h 0), bytes_back bs (λ k. h (suc k)))
 
 byte_at : (given : List ℕ) → ((k : ℕ) → get_or given k 0 < 2) → (i : ℕ) → bit_of (get_or (map is_one given) i false) ≡ get_or given i 0
-byte_at [] h i = refl
-byte_at (b ∷ bs) h zero = bit_byte b (h 0)
-byte_at (b ∷ bs) h (suc i) = byte_at bs (λ k. h (suc k)) i
-
-lowest_of : (b : Bool) → lane 0 (bit_of b) ≡ b
-lowest_of true = refl
-lowest_of false = refl
+byte_at given h i = ap bit_of (get_or-map is_one given i 0) ∙ bit_of_eqb (get_or given i 0) (h i)
 
 lowest_back : (vs : List Bool) → map (lane 0) (map bit_of vs) ≡ vs
 lowest_back [] = refl
-lowest_back (v ∷ vs) =
-    let x = lowest_of v in
-    let y = lowest_back vs in
-    cc
+lowest_back (true ∷ vs) = grind (arith, lowest_back vs)
+lowest_back (false ∷ vs) = grind (arith, lowest_back vs)
 
 pub settled_from : (c : Circuit) (given : List ℕ) → ((k : ℕ) → get_or given k 0 < 2) → share_count c ≤ length given → carried_from (lane_ops 1) c given ≡ settled_bytes c given
 settled_from c given small long =
@@ -79,9 +65,7 @@ length_settled_bytes c given h =
 -- lanes
 
 lane_at : (j : ℕ) (given : List ℕ) (i : ℕ) → lane j (get_or given i 0) ≡ get_or (map (lane j) given) i false
-lane_at j [] i = zero_lane j
-lane_at j (x ∷ xs) zero = refl
-lane_at j (x ∷ xs) (suc i) = lane_at j xs i
+lane_at j given i = sym (get_or-map (lane j) given i 0) ∙ ap (get_or (map (lane j) given) i) (bit_zero j)
 
 settled_lanes : (c : Circuit) (given : List ℕ) → share_count c ≤ length given → SettledLanes c given (carried_from (lane_ops 64) c given)
 settled_lanes c given long j h =
@@ -97,7 +81,7 @@ settled_lanes c given long j h =
 
     one : Respects (given_values (lane_ops 64) given) (bits (map (lane j) given)) (lane j) 0
     one = record {
-      none = zero_lane j;
+      none = bit_zero j;
       source = λ w k. lane_at j given k ∙ ap (λ i. get_or (map (lane j) given) i false) (sym (zero-add k));
       store = λ w v. refl;
       look = λ t vs. lane_lanes 64 (λ i. bit t (number (map (lane i) vs))) j h;
@@ -142,30 +126,15 @@ carried_bounded (looked t os) k vs b = omega (arith, largest_bounded vs b os)
 
 bounded_push : (vs : List ℕ) (v : ℕ) → Bounded vs → v ≤ suc (length vs) → Bounded (vs ++ (v ∷ []))
 unfolding Bounded
-bounded_push vs v b h i = here (ℕ_discrete i (length vs))
-  where
-    long : length (vs ++ (v ∷ [])) ≡ suc (length vs)
-    long = let e = length-append vs (v ∷ []) in omega arith
-
-    here : Dec (i ≡ length vs) → get_or (vs ++ (v ∷ [])) i 0 ≤ length (vs ++ (v ∷ []))
-    here (yes e) = let x = ap (λ k. get_or (vs ++ (v ∷ [])) k 0) e ∙ get_or_end vs v 0 in omega (arith, x, long)
-    here (no e) = let x = get_or_not_end vs v 0 i e in omega (arith, x, long, b i)
+bounded_push vs v b h i = grind (arith, common_steps, b i, get_or_not_end, cases_eq i (length vs))
 
 counts_bounded : (cs : List Driver) (k : ℕ) (vs : List ℕ) → Bounded vs → Bounded (carry counts cs k vs)
 counts_bounded [] k vs b = b
 counts_bounded (c ∷ cs) k vs b = counts_bounded cs (more_fresh c k) (vs ++ (carried counts c k vs ∷ [])) (bounded_push vs (carried counts c k vs) b (carried_bounded c k vs b))
 
-zeros_bounded : (n i : ℕ) → get_or (replicate n 0) i 0 ≤ 0
-zeros_bounded zero i = omega arith
-zeros_bounded (suc n) zero = omega arith
-zeros_bounded (suc n) (suc i) = zeros_bounded n i
-
 cap_small : (vs : List ℕ) → ((i : ℕ) → get_or vs i 0 ≤ 65535) → map (min 65535) vs ≡ vs
 cap_small [] b = refl
-cap_small (v ∷ vs) b =
-    let x : min 65535 v ≡ v = omega (arith, b 0) in
-    let y = cap_small vs (λ i. b (suc i)) in
-    cc
+cap_small (v ∷ vs) b = grind (arith, b 0, cap_small vs (λ i. b (suc i)))
 
 cap_zeros : (n : ℕ) → map (min 65535) (replicate n 0) ≡ filled n 0 []
 cap_zeros zero = refl
@@ -173,7 +142,7 @@ cap_zeros (suc n) = ap (λ l. 0 ∷ l) (cap_zeros n)
 
 cap_largest : (vs : List ℕ) → min 65535 (largest vs) ≡ largest (map (min 65535) vs)
 cap_largest [] = refl
-cap_largest (v ∷ vs) = let x = cap_largest vs in omega arith
+cap_largest (v ∷ vs) = omega (arith, cap_largest vs)
 
 pub length_register_counts : (c : Circuit) → length (register_counts c) ≡ wire_count c
 length_register_counts c = length_carry counts c.drivers 0 (replicate (share_count c) 0) ∙ ap (λ k. k + length c.drivers) (length-replicate (share_count c) 0)
@@ -190,7 +159,7 @@ counts_from c few =
     n = share_count c
 
     bound : (i : ℕ) → get_or (register_counts c) i 0 ≤ length (register_counts c)
-    bound = counts_bounded c.drivers 0 (replicate n 0) (λ i. omega (arith, zeros_bounded n i))
+    bound = counts_bounded c.drivers 0 (replicate n 0) (λ i. grind (arith, common_steps))
 
     respects : Respects counts (given_values count_ops []) (min 65535) n
     respects = record {

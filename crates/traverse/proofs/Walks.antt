@@ -1,6 +1,7 @@
 -- The steps of the traversal, for any operations.
 use Rattle.std.proofs.Common.{◌≡◌, ℕ, zero, suc, ◌+◌, ◌-◌, ◌*◌, ◌<◌, ◌≤◌, List, [], ◌∷◌, ◌++◌, map, length, get_or, take, drop, set, sym, refl, ap, ◌∙◌, add-zero, add-one, arith, length-set, get_or-drop}
 use Rattle.std.proofs.lemmas.List.{drop_more, drop-drop, drop-set-lt, take_more_set}
+use Rattle.std.proofs.lemmas.Grind.{common_steps}
 use Rattle.std.proofs.lemmas.Slice.{drop-append-drop}
 use Rattle.netlist.specs.Circuit.{Driver, stored, looked, carry, carried, more_fresh, fresh_after, mask_count}
 use Rattle.netlist.specs.Cells.{driver, no_cell}
@@ -15,7 +16,7 @@ more_by_one (looked t os) k = omega arith
 
 -- a write at i leaves what is past it
 drop_write : {X : Type 0} (xs ys : List X) (i : ℕ) (y : X) → drop i xs ≡ drop i ys → drop (i + 1) (set xs i y) ≡ drop (i + 1) ys
-drop_write xs ys i y e = drop-set-lt (i + 1) xs i y (omega arith) ∙ sym (drop-drop 1 i xs) ∙ ap (drop 1) e ∙ drop-drop 1 i ys
+drop_write xs ys i y e = grind (arith, common_steps, drop-set-lt)
 
 module _ {V : Type 0} where
   filled_suc : (n : ℕ) (z : V) (vs : List V) → filled (suc n) z vs ≡ filled n z vs ++ (get_or vs n z ∷ [])
@@ -34,10 +35,7 @@ module _ {V : Type 0} where
       → (take i out ≡ filled i z given) × (drop i out ≡ drop i before)
       → (take (i + 1) (set out i v) ≡ filled (i + 1) z given) × (drop (i + 1) (set out i v) ≡ drop (i + 1) before)
   shares_again i z v given before out l e h =
-      let n : suc i ≡ i + 1 = omega arith in (
-        take_more_set out i v l ∙ ap (λ xs. xs ++ (v ∷ [])) h.0 ∙ ap (λ x. filled i z given ++ (x ∷ [])) e ∙ sym (filled_suc i z given) ∙ ap (λ k. filled k z given) n,
-        drop_write out before i v h.1,
-      )
+      let n : suc i ≡ i + 1 = omega arith in (grind (arith, common_steps, filled_suc i z given, n), drop_write out before i v h.1)
 
   -- k of the values given are taken: what is left gives the same, and so does what is left after one driver more
   pub carried_later : (o : Ops V) (given : List V) (d : Driver) (k : ℕ) (vs : List V) → carried (given_values o (drop k given)) d 0 vs ≡ carried (given_values o given) d k vs

@@ -1,7 +1,7 @@
 -- The verdict on a list of stations: accepted if the rules hold at all, and else the fault of the first at which they do not.
-use Rattle.std.proofs.Common.{◌≡◌, true, false, ◌⊎◌, List, [], ◌∷◌, ◌++◌, Ok, Err, refl, ap, ◌∙◌, inl, inr}
+use Rattle.std.proofs.Common.{◌≡◌, true, false, ◌⊎◌, List, [], ◌∷◌, ◌++◌, Ok, Err, refl, ap, ◌∙◌, inl, inr, arith}
 use Rattle.std.specs.List.{AllByRecursion}
-use Rattle.std.proofs.lemmas.Bool.{true≢false, both_ways, cond-true, cond-false, cases_Bool}
+use Rattle.std.proofs.lemmas.Bool.{both_ways, cond-true, cond-false, cases_Bool}
 use Rattle.fault.specs.declared.NetlistFault.{NetlistFault}
 use Rattle.block.specs.Blocks.{Whole}
 use Rattle.verdict.specs.declared.Acceptance.{Acceptance}
@@ -39,15 +39,15 @@ module _ (b : Whole) where
       case (inl e) (inr (t, (before, after, p, h, n))) = inr (t, (s ∷ before, after, ap (λ l. s ∷ l) p, (passes_holds b s e, h), n))
 
   pub accepted_all : (ss : List Station) (a : Acceptance) → judged b ss ≡ Ok a → AllByRecursion (Holds b) ss × (a ≡ acceptance b)
-  accepted_all ss a e = case (all_or_first ss)
-    where
-      case : AllByRecursion (Holds b) ss ⊎ ((s : Station) × FirstFailing b ss s) → AllByRecursion (Holds b) ss × (a ≡ acceptance b)
-      case (inl h) = (h, (let r = accepts ss h in cc))
-      case (inr (s, f)) = let r = refuses ss s f in let z : true ≡ false = cc in absurd (true≢false z)
+  accepted_all ss a e =
+      elim (all_or_first ss) [
+        | inl h ↦ (h, grind (arith, accepts ss h))
+        | inr (s, f) ↦ absurd (grind (arith, refuses ss s f))
+      ]
 
   pub refused_first : (ss : List Station) (f : NetlistFault) → judged b ss ≡ Err f → (s : Station) × FirstFailing b ss s × (f ≡ fault_at b s)
-  refused_first ss f e = case (all_or_first ss)
-    where
-      case : AllByRecursion (Holds b) ss ⊎ ((s : Station) × FirstFailing b ss s) → (s : Station) × FirstFailing b ss s × (f ≡ fault_at b s)
-      case (inl h) = let r = accepts ss h in let z : true ≡ false = cc in absurd (true≢false z)
-      case (inr (s, p)) = (s, p, (let r = refuses ss s p in cc))
+  refused_first ss f e =
+      elim (all_or_first ss) [
+        | inl h ↦ absurd (grind (arith, accepts ss h))
+        | inr (s, p) ↦ (s, p, grind (arith, refuses ss s p))
+      ]

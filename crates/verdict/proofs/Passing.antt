@@ -5,17 +5,12 @@ use Rattle.std.proofs.lemmas.Bool.{leb-true, le-leb, or_cases, or_left, or_right
 use Rattle.netlist.specs.Circuit.{wire_count, mask_count, seen, number}
 use Rattle.isolation.specs.Patterns.{xor, xors, size}
 use Rattle.isolation.specs.Tests.{every, tests_clean}
+use Rattle.isolation.proofs.Patterns.{beq_eq}
 use Rattle.isolation.proofs.Tests.{every_of, every_from, test_clean, clean_test}
 use Rattle.block.specs.Blocks.{Whole, output_at}
 use Rattle.verdict.specs.Rules.{circuit_of, output_wire, bundle, settled_at, RecombinesAt}
 use Rattle.verdict.specs.Stations.{Observation, on_wire, on_outputs, observed, Isolated, Station, wires, masks, output, breadth, isolation, Holds}
 use Rattle.verdict.specs.Verdict.{recombines, isolated, passes}
-
-pub beq_eq : (s t : Bool) → beq s t ≡ true → s ≡ t
-beq_eq true true h = refl
-beq_eq true false h = sym h
-beq_eq false true h = h
-beq_eq false false h = refl
 
 pub eq_beq : (s t : Bool) → s ≡ t → beq s t ≡ true
 eq_beq true true h = refl
