@@ -4,6 +4,7 @@ ghost use Rattle.std.specs.Prelude.{◌≡◌, ℕ, ◌^◌, ◌<◌, ◌≤◌,
 pub mod filling;
 
 // Entries past the last are zero: the array is fixed, since the library has no heap.
+// Seen through `tabled` and not by a model: a model hides its invariant from the laws of a block, so each call would promise once more that the table is lawful.
 #[derive(Clone, Copy, Debug)]
 pub struct TruthTable {
     n: usize,
