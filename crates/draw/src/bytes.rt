@@ -13,3 +13,16 @@ pub fn with_byte(heap: Global, bytes: &[u8], at: usize, value: u8) -> Result<Vec
     }
     Ok(copy)
 }
+
+#[cfg(test)]
+mod tests {
+    use super::*;
+    use std::test::Fail;
+
+    #[test]
+    fn sets_a_byte(rt: HostRuntime) -> Result<(), Fail> {
+        let copy = with_byte(rt.alloc(), &[1, 2, 3], 1, 9)?;
+        assert_eq!(rt; copy.as_slice(), [1, 9, 3].as_slice());
+        Ok(())
+    }
+}

@@ -76,3 +76,19 @@ impl Numbers {
         self.draw_bytes(heap, count, 2)
     }
 }
+
+#[cfg(test)]
+mod tests {
+    use super::*;
+    use std::test::Fail;
+
+    #[test]
+    fn draws_as_many(rt: HostRuntime) -> Result<(), Fail> {
+        let heap = rt.alloc();
+        let mut numbers = Numbers::new(1);
+        assert_eq!(rt; numbers.draw_cells(heap, 2, 5)?.len(), 5);
+        assert_eq!(rt; numbers.draw_bits(heap, 6)?.len(), 6);
+        assert_eq!(rt; numbers.draw_bytes(heap, 7, 16)?.len(), 7);
+        Ok(())
+    }
+}

@@ -14,3 +14,15 @@ pub fn fnv1a(bytes: &[u8]) -> u64
         (hash ^ u64::from(*byte)).wrapping_mul(FNV_PRIME)
     })
 }
+
+#[cfg(test)]
+mod tests {
+    use super::*;
+
+    // Values that are published with the hash.
+    #[test]
+    fn hashes_letters(rt: HostRuntime) {
+        assert_eq!(rt; fnv1a(b""), 0xcbf29ce484222325);
+        assert_eq!(rt; fnv1a(b"a"), 0xaf63dc4c8601ec8c);
+    }
+}

@@ -1,4 +1,6 @@
 // The page that a program writes.
+ghost use Rattle.std.specs.Prelude.{◌≡◌, [], IfOk, string_bytes};
+
 use crate::numbers::Numbers;
 use std::alloc::Global;
 use std::io;
@@ -12,20 +14,19 @@ pub struct Page {
 
 impl Page {
     // An empty page, and the numbers that start at `seed`.
-    pub fn new(heap: Global, seed: u64) -> Page {
+    pub fn new(heap: Global, seed: u64) -> Page
+        ensures { string_bytes result.text ≡ [] }
+    {
         Page {
             text: String::new(heap),
             numbers: Numbers::new(seed),
         }
     }
 
-    // Where its text lies.
-    pub fn heap(&self) -> Global {
-        *self.text.allocator()
-    }
-
     // Prints the text, and empties the page.
-    pub fn print(&mut self, rt: &impl Print) -> io::Result<()> {
+    pub fn print(&mut self, rt: &impl Print) -> io::Result<()>
+        ensures { IfOk result (λ _. string_bytes self.new.text ≡ []) }
+    {
         rt.print(self.text.as_str())?;
         self.text.clear();
         Ok(())

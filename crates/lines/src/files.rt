@@ -1,7 +1,8 @@
 // How a block's file is read and written.
-ghost use Rattle.std.specs.Prelude.{◌≡◌, IfOk, string_bytes};
+ghost use Rattle.std.specs.Prelude.{◌≡◌, true, IfOk, is_ok, string_bytes};
 ghost use Rattle.blockfile.specs.Answers.{file_answer};
-ghost use Rattle.lines.specs.Lines.{check_text};
+ghost use Rattle.lines.specs.Lines.{check_text, same_text};
+ghost use Rattle.blockfile.specs.Reading.{block_read};
 
 use blockfile::checking::check;
 use blockfile::file_view::viewing::view;
@@ -18,15 +19,49 @@ pub fn check_line(heap: Global, bytes: &[u8]) -> Result<String, AllocError>
     }
 }
 
-// How long the file of the block in these bytes is, and whether it is the same bytes.
-pub fn rewritten_line(heap: Global, bytes: &[u8]) -> Result<String, AllocError> {
+// How long a file is, and whether it is the same bytes as these.
+fn compared(heap: Global, file: &[u8], bytes: &[u8]) -> Result<String, AllocError>
+    ensures { file.now ≡ bytes.now → IfOk result (λ s. string_bytes s ≡ same_text bytes.now) }
+{
+    let told = if file == bytes { "the same" } else { "other" };
+    format!(in heap; "{}, {told} bytes", file.len())
+}
+
+// How long the file of the block in these bytes is, and whether it is the same bytes; for a block's file it is.
+pub fn rewritten_line(heap: Global, bytes: &[u8]) -> Result<String, AllocError>
+    ensures { is_ok (block_read bytes.now) ≡ true → IfOk result (λ s. string_bytes s ≡ same_text bytes.now) }
+{
     let mut out = vec![in heap; 0u8; bytes.len()]?;
     match write(&view(bytes), &mut out) {
         Ok(length) => {
-            let same = out.get(..length) == Some(bytes);
-            let told = if same { "the same" } else { "other" };
-            format!(in heap; "{length}, {told} bytes")
+            out.truncate(length);
+            compared(heap, &out, bytes)
         }
         Err(fault) => fault.to_string(heap),
+    }
+}
+
+#[cfg(test)]
+mod tests {
+    use super::*;
+    use std::test::Fail;
+
+    // One bit that passes through.
+    static IDENTITY: [u8; 17] = [1, 0, 2, 1, 1, 2, 0, 2, 0, 1, 4, 0, 4, 0, 0, 0, 1];
+
+    #[test]
+    fn checks_files(rt: HostRuntime) -> Result<(), Fail> {
+        let heap = rt.alloc();
+        assert_eq!(rt; check_line(heap, &IDENTITY)?.as_str(), "accepted");
+        let empty = check_line(heap, &IDENTITY[..0])?;
+        assert_eq!(rt; empty.as_str(), "refused 4 layer 1 place 0");
+        Ok(())
+    }
+
+    #[test]
+    fn writes_a_file_back(rt: HostRuntime) -> Result<(), Fail> {
+        let line = rewritten_line(rt.alloc(), &IDENTITY)?;
+        assert_eq!(rt; line.as_str(), "17, the same bytes");
+        Ok(())
     }
 }

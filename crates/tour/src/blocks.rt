@@ -3,7 +3,7 @@ use block::table::TruthTable;
 use blockfile::file_view::viewing::view;
 use lines::answers::{probe_line, settle_line};
 use lines::files::{check_line, rewritten_line};
-use lines::saying::say;
+use lines::saying::labelled;
 use std::alloc::{AllocError, Global};
 
 // One bit that passes through, and an XOR of both shares that nothing uses.
@@ -22,16 +22,16 @@ fn table_text(heap: Global, entries: &[u8]) -> Result<String, AllocError> {
 // A table is made, and a block's file is read, settled, probed and written back.
 pub fn show_block(rt: &HostRuntime) -> anyhow::Result<()> {
     let heap = rt.alloc();
-    say(rt, "the table 0 0 0 1", table_text(heap, &[0, 0, 0, 1])?)?;
-    say(rt, "the table 0 0 0 2", table_text(heap, &[0, 0, 0, 2])?)?;
-    say(rt, "a block file", check_line(heap, &IDLE_XOR)?)?;
+    rt.print(labelled(heap, "the table 0 0 0 1", table_text(heap, &[0, 0, 0, 1])?)?)?;
+    rt.print(labelled(heap, "the table 0 0 0 2", table_text(heap, &[0, 0, 0, 2])?)?)?;
+    rt.print(labelled(heap, "a block file", check_line(heap, &IDLE_XOR)?)?)?;
     let block = view(&IDLE_XOR);
     let settled = settle_line(heap, &block, &[1, 0])?;
-    say(rt, "its shares 10 settle to", settled)?;
+    rt.print(labelled(heap, "its shares 10 settle to", settled)?)?;
     let seen = probe_line(heap, &block, 2)?;
-    say(rt, "a probe on its wire 2 sees", seen)?;
-    say(rt, "bytes written back", rewritten_line(heap, &IDLE_XOR)?)?;
+    rt.print(labelled(heap, "a probe on its wire 2 sees", seen)?)?;
+    rt.print(labelled(heap, "bytes written back", rewritten_line(heap, &IDLE_XOR)?)?)?;
     let cut = check_line(heap, &IDLE_XOR[0..20])?;
-    say(rt, "its first 20 bytes", cut)?;
+    rt.print(labelled(heap, "its first 20 bytes", cut)?)?;
     Ok(())
 }

@@ -4,7 +4,7 @@
 use crate::blocks::show_block;
 use anyhow::Context;
 use lines::answers::{counts_line, probe_line, settle_line};
-use lines::saying::say;
+use lines::saying::labelled;
 use netlist::cell::{Cell, Kind};
 use netlist::cell_list::CellList;
 use netlist::netlist::Netlist;
@@ -37,19 +37,19 @@ fn show_netlist(rt: &HostRuntime, netlist: &CellList) -> anyhow::Result<()> {
     let heap = rt.alloc();
     show_sizes(rt, netlist)?;
     let settled = settle_line(heap, netlist, &[1, 0, 1])?;
-    say(rt, "shares 10 and mask 1 settle to", settled)?;
+    rt.print(labelled(heap, "shares 10 and mask 1 settle to", settled)?)?;
     let settled = settle_line(heap, netlist, &[1, 1, 0])?;
-    say(rt, "shares 11 and mask 0 settle to", settled)?;
+    rt.print(labelled(heap, "shares 11 and mask 0 settle to", settled)?)?;
     let seen = probe_line(heap, netlist, 3)?;
-    say(rt, "a probe on wire 3 sees", seen)?;
+    rt.print(labelled(heap, "a probe on wire 3 sees", seen)?)?;
     let seen = probe_line(heap, netlist, 6)?;
-    say(rt, "a probe on wire 6 sees", seen)?;
+    rt.print(labelled(heap, "a probe on wire 6 sees", seen)?)?;
     let counts = counts_line(heap, netlist)?;
-    say(rt, "registers before each wire", counts)?;
-    say(rt, "a probe on wire 7", probe_line(heap, netlist, 7)?)?;
+    rt.print(labelled(heap, "registers before each wire", counts)?)?;
+    rt.print(labelled(heap, "a probe on wire 7", probe_line(heap, netlist, 7)?)?)?;
     let refused = settle_line(heap, netlist, &[1, 0])?;
-    say(rt, "two bytes where three are due", refused)?;
-    say(rt, "netlists worked out by hand", worked_examples())?;
+    rt.print(labelled(heap, "two bytes where three are due", refused)?)?;
+    rt.print(labelled(heap, "netlists worked out by hand", worked_examples())?)?;
     Ok(())
 }
 

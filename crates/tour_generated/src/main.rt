@@ -9,7 +9,7 @@ use ghpc::ghpc::Ghpc;
 use ghpc::low_latency::GhpcLl;
 use lines::answers::{probe_line, settle_line};
 use lines::files::{check_line, rewritten_line};
-use lines::saying::say;
+use lines::saying::labelled;
 use std::alloc::{AllocError, Global};
 use worked::worked_blocks;
 
@@ -32,22 +32,23 @@ fn low_latency_text(heap: Global, table: TruthTable) -> Result<String, AllocErro
 // What is read from a file is settled, probed and written back.
 fn show_file(rt: &HostRuntime, file: &[u8]) -> anyhow::Result<()> {
     let heap = rt.alloc();
-    say(rt, "the file read again", check_line(heap, file)?)?;
+    rt.print(labelled(heap, "the file read again", check_line(heap, file)?)?)?;
     let block = view(file);
     let settled = settle_line(heap, &block, &[1, 0, 0, 1, 1])?;
-    say(rt, "its shares 1001 and mask 1 settle to", settled)?;
+    rt.print(labelled(heap, "its shares 1001 and mask 1 settle to", settled)?)?;
     let seen = probe_line(heap, &block, 35)?;
-    say(rt, "a probe on its wire 35 sees", seen)?;
-    say(rt, "bytes written back", rewritten_line(heap, file)?)?;
+    rt.print(labelled(heap, "a probe on its wire 35 sees", seen)?)?;
+    rt.print(labelled(heap, "bytes written back", rewritten_line(heap, file)?)?)?;
     Ok(())
 }
 
 // The file of a block, written, and shown.
 fn show_written(rt: &HostRuntime, block: &Ghpc) -> anyhow::Result<()> {
-    let mut file = vec![in rt.alloc(); 0u8; ROOM]?;
+    let heap = rt.alloc();
+    let mut file = vec![in heap; 0u8; ROOM]?;
     let length = write(block, &mut file)?;
     file.truncate(length);
-    say(rt, "bytes of its file", length)?;
+    rt.print(labelled(heap, "bytes of its file", length)?)?;
     show_file(rt, &file)
 }
 
@@ -55,11 +56,11 @@ fn run(rt: &HostRuntime) -> anyhow::Result<()> {
     let heap = rt.alloc();
     let table = and_table()?;
     let block = Ghpc::new(table);
-    say(rt, "GHPC of the table 0 0 0 1", block.report())?;
+    rt.print(labelled(heap, "GHPC of the table 0 0 0 1", block.report())?)?;
     show_written(rt, &block)?;
     let low_latency = low_latency_text(heap, table)?;
-    say(rt, "GHPC_LL of the table 0 0 0 1", low_latency)?;
-    say(rt, "claims on blocks worked out by hand", worked_blocks())?;
+    rt.print(labelled(heap, "GHPC_LL of the table 0 0 0 1", low_latency)?)?;
+    rt.print(labelled(heap, "claims on blocks worked out by hand", worked_blocks())?)?;
     Ok(())
 }
 

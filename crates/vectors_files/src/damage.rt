@@ -22,7 +22,7 @@ fn part(file: &[u8], places: Range<usize>) -> &[u8] {
 
 // One line: how the file was damaged, and what reading it answers.
 fn note(page: &mut Page, label: &str, place: usize, bytes: &[u8]) -> Result<(), AllocError> {
-    let answer = verdict(page.heap(), bytes)?;
+    let answer = verdict(*page.text.allocator(), bytes)?;
     writeln!(page.text, "{label} {place} {answer}")
 }
 
@@ -33,7 +33,7 @@ fn note_parts(
     place: usize,
     parts: &[&[u8]],
 ) -> Result<(), AllocError> {
-    let mut bytes = Vec::new(page.heap());
+    let mut bytes = Vec::new(*page.text.allocator());
     for part in parts {
         bytes.extend_from_slice(part)?;
     }
@@ -67,7 +67,8 @@ fn write_changes(page: &mut Page, file: &[u8]) -> Result<(), AllocError> {
     for _ in 0..DRAWN_CHANGES {
         let at = page.numbers.below(file.len());
         let value = page.numbers.below(256) as u8;
-        note(page, "byte", at, &with_byte(page.heap(), file, at, value)?)?;
+        let damaged = with_byte(*page.text.allocator(), file, at, value)?;
+        note(page, "byte", at, &damaged)?;
     }
     Ok(())
 }
@@ -75,7 +76,8 @@ fn write_changes(page: &mut Page, file: &[u8]) -> Result<(), AllocError> {
 // The file with one more in a byte.
 fn write_increment(page: &mut Page, file: &[u8], label: &str, at: usize) -> Result<(), AllocError> {
     let value = file.get(at).map_or(1, |byte| byte.wrapping_add(1));
-    note(page, label, at, &with_byte(page.heap(), file, at, value)?)
+    let damaged = with_byte(*page.text.allocator(), file, at, value)?;
+    note(page, label, at, &damaged)
 }
 
 // The file with one more in a tag or in one of the length bytes.

@@ -30,8 +30,8 @@ fn write_block(page: &mut Page, index: usize, drawn: &Drawn) -> anyhow::Result<(
         page.text,
         "block {index} inputs {inputs} outputs {outputs} cells {cells} bytes {len} sum {sum}"
     )?;
-    let told = verdict(page.heap(), &drawn.file.bytes)?;
-    let same = format!(in page.heap(); "accepted sum {sum}")?;
+    let told = verdict(*page.text.allocator(), &drawn.file.bytes)?;
+    let same = format!(in *page.text.allocator(); "accepted sum {sum}")?;
     let line = if told == same {
         "file accepted"
     } else {
@@ -54,7 +54,7 @@ fn masks_file(heap: Global, count: usize) -> Result<Vec<u8>, AllocError> {
 }
 
 fn write_limit(page: &mut Page) -> anyhow::Result<()> {
-    let heap = page.heap();
+    let heap = *page.text.allocator();
     let file = masks_file(heap, 4094)?;
     let len = file.len();
     let told = verdict(heap, &file)?;
@@ -65,7 +65,7 @@ fn write_limit(page: &mut Page) -> anyhow::Result<()> {
 }
 
 fn write_named(page: &mut Page) -> anyhow::Result<()> {
-    let heap = page.heap();
+    let heap = *page.text.allocator();
     let identity = verdict(heap, &IDENTITY)?;
     writeln!(page.text, "identity {identity}")?;
     let mut entry = IDENTITY;
@@ -78,7 +78,7 @@ fn write_named(page: &mut Page) -> anyhow::Result<()> {
 }
 
 fn write_numbered(page: &mut Page, index: usize) -> anyhow::Result<()> {
-    let drawn = draw_block(page.heap(), &mut page.numbers, index)?;
+    let drawn = draw_block(*page.text.allocator(), &mut page.numbers, index)?;
     write_block(page, index, &drawn)?;
     damage::write_damaged(page, &drawn.file)?;
     Ok(())

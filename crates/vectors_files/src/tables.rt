@@ -62,14 +62,14 @@ fn write_table(page: &mut Page, drawn: &Table) -> Result<(), AllocError> {
         usize::from(outputs),
         &drawn.entries,
     ) {
-        Ok(table) => columns(page.heap(), &table)?,
-        Err(fault) => fault.to_string(page.heap())?,
+        Ok(table) => columns(*page.text.allocator(), &table)?,
+        Err(fault) => fault.to_string(*page.text.allocator())?,
     };
     writeln!(page.text, "table {inputs} {outputs} {count} {told}")
 }
 
 pub fn write_tables(page: &mut Page) -> Result<(), AllocError> {
-    let heap = page.heap();
+    let heap = *page.text.allocator();
     for turn in 0..TABLES {
         let drawn = match turn % 4 {
             1 => Table::draw(heap, &mut page.numbers)?,

@@ -35,7 +35,7 @@ where
 
 // Writes what every wire settles to, and returns whether the memory past the wires was kept.
 fn write_settling(page: &mut Page, net: &CellList<'_>, given: &[u8]) -> anyhow::Result<bool> {
-    let heap = page.heap();
+    let heap = *page.text.allocator();
     let (values, kept) = ask(heap, net, BYTE_FILLER, |out| settle(net, given, out))?;
     let settled = bits(heap, &values)?;
     writeln!(page.text, "settled {settled}")?;
@@ -44,7 +44,7 @@ fn write_settling(page: &mut Page, net: &CellList<'_>, given: &[u8]) -> anyhow::
 
 // Writes the wires that a probe sees, and returns whether the memory past the wires was kept.
 fn write_probe(page: &mut Page, net: &CellList<'_>, wire: usize) -> anyhow::Result<bool> {
-    let heap = page.heap();
+    let heap = *page.text.allocator();
     let (marks, kept) = ask(heap, net, BYTE_FILLER, |out| probe(net, wire, out))?;
     let seen = spaced(heap, &places(heap, &marks)?)?;
     writeln!(page.text, "probe {wire} sees {seen}")?;
@@ -53,7 +53,7 @@ fn write_probe(page: &mut Page, net: &CellList<'_>, wire: usize) -> anyhow::Resu
 
 // Writes the register count of every wire, and returns whether the memory past the wires was kept.
 fn write_counts(page: &mut Page, net: &CellList<'_>) -> anyhow::Result<bool> {
-    let heap = page.heap();
+    let heap = *page.text.allocator();
     let (registers, kept) = ask(heap, net, COUNT_FILLER, |out| count(net, out))?;
     let counts = spaced(heap, &registers)?;
     writeln!(page.text, "counts {counts}")?;
@@ -62,7 +62,7 @@ fn write_counts(page: &mut Page, net: &CellList<'_>) -> anyhow::Result<bool> {
 
 // Writes two settlings, two probes and the counts, and whether the memory past them was kept. Returns the bytes that were given to the second settling.
 pub fn write_answers(page: &mut Page, net: &CellList<'_>) -> anyhow::Result<Vec<u8>> {
-    let heap = page.heap();
+    let heap = *page.text.allocator();
     let needed = 2 * net.inputs() + masks(net);
     let first = page.numbers.draw_bits(heap, needed)?;
     let mut kept = write_settling(page, net, &first)?;

@@ -26,7 +26,7 @@ fn write_damaged<D: FnOnce(Cell, u16) -> Cell>(
     requires { D.IsAlwaysCallable damage }
 {
     let index = page.numbers.below(cells.len());
-    let mut damaged = cells.to_vec(page.heap())?;
+    let mut damaged = cells.to_vec(*page.text.allocator())?;
     let cell = damaged.get_mut(index).context("no cell to damage")?;
     *cell = damage(*cell, u16::try_from(2 * usize::from(inputs) + index)?);
     let lawful = yes_or_no(inputs, &damaged);
@@ -98,7 +98,7 @@ pub fn write_long_lists(page: &mut Page) -> anyhow::Result<()> {
         ("wide", 8, 4081),
     ];
     for (label, inputs, count) in lists {
-        let cells = vec![in page.heap(); Cell::gate(Kind::Mask, 0, 0); count]?;
+        let cells = vec![in *page.text.allocator(); Cell::gate(Kind::Mask, 0, 0); count]?;
         let lawful = yes_or_no(inputs, &cells);
         writeln!(page.text, "{label} {count} lawful {lawful}")?;
     }

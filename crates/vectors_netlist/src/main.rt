@@ -19,7 +19,7 @@ const NETLISTS: usize = 320;
 
 // Draws netlist number `index`, of which each sixteenth is long, and writes all about it.
 fn write_netlist(page: &mut Page, index: usize) -> anyhow::Result<()> {
-    let heap = page.heap();
+    let heap = *page.text.allocator();
     let inputs = 1 + page.numbers.below(8) as u8;
     let count = if index % 16 == 15 {
         200 + page.numbers.below(401)

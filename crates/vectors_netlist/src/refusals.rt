@@ -34,7 +34,7 @@ impl Refusals<'_> {
         Q: FnOnce(&mut [T]) -> Result<(), NetlistFault>,
         requires { Q.IsAlwaysCallable query }
     {
-        let mut buffer = vec![in self.page.heap(); filler; len]?;
+        let mut buffer = vec![in *self.page.text.allocator(); filler; len]?;
         match query(&mut buffer) {
             Err(fault) => writeln!(self.page.text, "{label} {fault}")?,
             Ok(()) => writeln!(self.page.text, "{label} accepted")?,
@@ -60,7 +60,7 @@ impl Refusals<'_> {
 
     // Settlings with too little memory, or of bytes that are too few or too many. `given` are bytes that settling accepts.
     fn settle_lengths(&mut self, given: &[u8]) -> anyhow::Result<()> {
-        let heap = self.page.heap();
+        let heap = *self.page.text.allocator();
         let net = self.net;
         let wires = net.wires();
         let (_, few) = given.split_last().context("no bytes were given")?;
@@ -75,7 +75,7 @@ impl Refusals<'_> {
 
     // Settlings of bytes that are no bits: the one at `index`, and the first as well.
     fn settle_large(&mut self, given: &[u8], index: usize, value: u8) -> anyhow::Result<()> {
-        let heap = self.page.heap();
+        let heap = *self.page.text.allocator();
         let net = self.net;
         let ample = net.wires() + EXTRA;
         let large = with_byte(heap, given, index, value)?;
