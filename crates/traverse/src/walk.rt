@@ -10,6 +10,9 @@ use netlist::netlist::Netlist;
 use value::wire_value::WireValue;
 
 // What a cell makes of the values below it; a mask takes the next of the fresh values, and none past the last.
+// The operands of a look-up are read one by one: with their numbers as a slice, counting the registers of look-ups takes half as long again.
+// Without the hint LLVM may call it for each cell, and then copies the cell: counting takes six times as long.
+#[inline(always)]
 fn drive<V: WireValue>(x: Cell, below: &[V], fresh: &mut &[V]) -> V
     requires { Fits (length below.now) x }
     ensures value { result ≡ carried (given_values V.ops fresh.old.now) (driver x) 0 below.now }
@@ -21,9 +24,27 @@ fn drive<V: WireValue>(x: Cell, below: &[V], fresh: &mut &[V]) -> V
         Kind::And => below[usize::from(x.a)].both(below[usize::from(x.b)]),
         Kind::Xor => below[usize::from(x.a)].differ(below[usize::from(x.b)]),
         Kind::Reg => below[usize::from(x.a)].register(),
-        Kind::Look1 | Kind::Look2 | Kind::Look3 | Kind::Look4 => {
-            let operands = x.operands();
-            V::look(x.table, &operands[..usize::from(x.kind.operands())], below)
+        Kind::Look1 => {
+            let a = below[usize::from(x.a)];
+            V::look(x.table, 1, a, a, a, a)
+        }
+        Kind::Look2 => {
+            let a = below[usize::from(x.a)];
+            let b = below[usize::from(x.b)];
+            V::look(x.table, 2, a, b, a, a)
+        }
+        Kind::Look3 => {
+            let a = below[usize::from(x.a)];
+            let b = below[usize::from(x.b)];
+            let c = below[usize::from(x.c)];
+            V::look(x.table, 3, a, b, c, a)
+        }
+        Kind::Look4 => {
+            let a = below[usize::from(x.a)];
+            let b = below[usize::from(x.b)];
+            let c = below[usize::from(x.c)];
+            let d = below[usize::from(x.d)];
+            V::look(x.table, 4, a, b, c, d)
         }
     }
 }

@@ -1,13 +1,13 @@
 -- Bits of numbers, lane by lane.
-use Rattle.std.proofs.Common.{◌≡◌, ℕ, zero, suc, ◌+◌, ◌-◌, ◌*◌, ◌/◌, ◌%◌, ◌^◌, ◌<◌, ◌≤◌, min, Bool, true, false, cond, eqb, List, length, take, take_all, get_or, fold, max, [], ◌∷◌, map, sym, refl, ap, ◌∙◌, ⊎_elim, mod-eq_of_lt, add_comm, mul_left_comm, pow_mono, arith}
+use Rattle.std.proofs.Common.{◌≡◌, ℕ, zero, suc, ◌+◌, ◌-◌, ◌*◌, ◌/◌, ◌%◌, ◌^◌, ◌<◌, min, Bool, true, false, cond, eqb, List, [], ◌∷◌, map, sym, refl, ap, ◌∙◌, ⊎_elim, add_comm, arith}
 use native.Mathlib.Nat.{pow-succ'}
 use lib.Bits.{bit_and, bit_xor}
 use Rattle.std.specs.Int.{bit_at}
-use Rattle.std.proofs.lemmas.Nat.{mod_below, mul-le, shr_high, shr-shr}
+use Rattle.std.proofs.lemmas.Nat.{shr_high, shr-shr}
 use Rattle.std.proofs.lemmas.Nat.Bits.{bit_at_lowest, bit_at_and, bit_at_xor, bit_at_ones, bit_at-lt, bit_at_cat_low, same_from_bits_below}
 use Rattle.std.proofs.lemmas.Bool.{cases_lt}
 use Rattle.std.proofs.lemmas.Grind.{common_steps}
-use Rattle.netlist.specs.Circuit.{bit_of, number, bit, largest}
+use Rattle.netlist.specs.Circuit.{bit_of, number, bit}
 use Rattle.value.specs.Values.{lane, lanes}
 
 -- a bit that is tested is itself
@@ -108,34 +108,3 @@ lowest_lane x f e = sym (lowest x) ∙ ap bit_of e ∙ sym (lanes_one f)
 -- a byte look-up by the number of its operands' lowest bits
 pub lowest_look : (t i r : ℕ) (xs : List ℕ) → r ≡ bit_of (bit t i) → i ≡ number (map (lane 0) xs) → r ≡ lanes 1 (λ j. bit t (number (map (lane j) xs)))
 lowest_look t i r xs e n = e ∙ ap (λ k. bit_of (bit t k)) n ∙ sym (lanes_one (λ j. bit t (number (map (lane j) xs))))
-
--- the number that some wires carry, with one wire more, and by the last of them
-pub number_more : (g : ℕ → ℕ) (j k : ℕ) (ws : List ℕ) → k < length ws
-    → number (map (lane j) (map g (take (suc k) ws))) ≡ number (map (lane j) (map g (take k ws))) + bit_of (lane j (g (get_or ws k 0))) * 2 ^ k
-number_more g j k [] l = absurd (omega arith)
-number_more g j zero (w ∷ ws) l = omega arith
-number_more g j (suc k) (w ∷ ws) l =
-    let more = number_more g j k ws (omega arith) in
-    let top = bit_of (lane j (g (get_or ws k 0))) in
-    let twice : top * 2 ^ suc k ≡ 2 * (top * 2 ^ k) = ap (λ n. top * n) (pow-succ' 2 k) ∙ mul_left_comm _ 2 (2 ^ k) in
-    omega (arith, more, twice)
-
-pub number_last : (g : ℕ → ℕ) (j k : ℕ) (ws : List ℕ) → length ws ≡ suc k → number (map (lane j) (map g ws)) ≡ number (map (lane j) (map g (take k ws))) + bit_of (lane j (g (get_or ws k 0))) * 2 ^ k
-number_last g j k ws e = ap (λ xs. number (map (lane j) (map g xs))) (sym (take_all (suc k) ws (omega arith))) ∙ number_more g j k ws (omega arith)
-
--- a bit shifted to its place keeps within a byte, and below the place after it
-pub bit_placed : (x i : ℕ) → i ≤ 3 → (x % 2 * 2 ^ i % 256 ≡ bit_of (lane 0 x) * 2 ^ i) × (x % 2 * 2 ^ i % 256 ≤ 2 ^ i)
-bit_placed x i l =
-    let few : 2 ^ i ≤ 8 = pow_mono l in
-    let low = mod_below x 2 (omega arith) in
-    let most = mul-le (x % 2) (2 ^ i) 1 (2 ^ i) (omega arith) (omega arith) in
-    let same : x % 2 * 2 ^ i % 256 ≡ x % 2 * 2 ^ i = mod-eq_of_lt (omega arith) in
-    (same ∙ ap (λ b. b * 2 ^ i) (sym (lowest x)), omega arith)
-
--- the largest of some counts, counted on from another
-fold_largest : (g : ℕ → ℕ) (a : ℕ) (ws : List ℕ) → fold (λ m w. max m (g w)) a ws ≡ max a (largest (map g ws))
-fold_largest g a [] = omega arith
-fold_largest g a (w ∷ ws) = fold_largest g (max a (g w)) ws ∙ omega arith
-
-pub fold_to_largest : (g : ℕ → ℕ) (ws : List ℕ) → fold (λ m w. max m (g w)) 0 ws ≡ largest (map g ws)
-fold_to_largest g ws = fold_largest g 0 ws ∙ omega arith

@@ -1,9 +1,9 @@
 // A bit in a byte, of which only the lowest bit counts.
-ghost use Rattle.std.specs.Prelude.{◌≡◌, ◌/◌, ◌%◌, ◌^◌, ◌<◌, ◌≤◌, length, map};
-ghost use Rattle.netlist.specs.Circuit.{bit, bit_of, number};
-ghost use Rattle.value.specs.Values.{lane, lane_ops, carried_on};
+ghost use Rattle.std.specs.Prelude.{◌≡◌, ◌/◌, ◌%◌, ◌^◌, ◌<◌};
+ghost use Rattle.netlist.specs.Circuit.{bit, bit_of};
+ghost use Rattle.value.specs.Values.{lane_ops};
 
-use crate::wire_value::{WireValue, first_four, value_on};
+use crate::wire_value::WireValue;
 
 // Bit number `i` of a table, of which there are sixteen.
 pub(crate) fn table_bit(table: u16, i: u8) -> u8
@@ -11,19 +11,6 @@ pub(crate) fn table_bit(table: u16, i: u8) -> u8
     ensures { result ≡ bit_of (bit table i) }
 {
     ((table >> i) % 2) as u8
-}
-
-// The number whose bits the wires carry, the first of them the lowest.
-fn index(wires: &[u16], values: &[u8]) -> u8
-    requires { length wires.now ≤ 4 }
-    ensures value { result ≡ number (map (lane 0) (carried_on 0 values.now wires.now)) }
-    ensures bound { result < 2 ^ length wires.now }
-{
-    let mut number = 0;
-    for (i, wire) in wires.iter().enumerate() {
-        number += (value_on(*wire, values, 0) % 2) << i;
-    }
-    number
 }
 
 impl WireValue for u8 {
@@ -49,7 +36,13 @@ impl WireValue for u8 {
         self
     }
 
-    fn look(table: u16, wires: &[u16], values: &[u8]) -> u8 {
-        table_bit(table, index(first_four(wires), values))
+    fn look(table: u16, width: u8, a: u8, b: u8, c: u8, d: u8) -> u8 {
+        match width {
+            0 => table_bit(table, 0),
+            1 => table_bit(table, a % 2),
+            2 => table_bit(table, a % 2 + 2 * (b % 2)),
+            3 => table_bit(table, a % 2 + 2 * (b % 2) + 4 * (c % 2)),
+            _ => table_bit(table, a % 2 + 2 * (b % 2) + 4 * (c % 2) + 8 * (d % 2)),
+        }
     }
 }

@@ -1,20 +1,8 @@
 // Register counts.
 ghost use Rattle.std.specs.Prelude.{◌≡◌};
-ghost use Rattle.netlist.specs.Circuit.{largest};
-ghost use Rattle.value.specs.Values.{count_ops, carried_on};
+ghost use Rattle.value.specs.Values.{count_ops};
 
-use crate::wire_value::{WireValue, first_four, value_on};
-
-// The largest of what the wires carry, and zero where there is no wire.
-fn largest(wires: &[u16], values: &[u16]) -> u16
-    ensures { result ≡ largest (carried_on 0 values.now wires.now) }
-{
-    wires
-        .iter()
-        .map(|wire| value_on(*wire, values, 0))
-        .max()
-        .unwrap_or(0)
-}
+use crate::wire_value::WireValue;
 
 impl WireValue for u16 {
     ghost ops = { count_ops };
@@ -39,7 +27,13 @@ impl WireValue for u16 {
         self.saturating_add(1)
     }
 
-    fn look(_table: u16, wires: &[u16], values: &[u16]) -> u16 {
-        largest(first_four(wires), values)
+    fn look(_table: u16, width: u8, a: u16, b: u16, c: u16, d: u16) -> u16 {
+        match width {
+            0 => 0,
+            1 => a,
+            2 => a.max(b),
+            3 => a.max(b).max(c),
+            _ => a.max(b).max(c).max(d),
+        }
     }
 }

@@ -1,9 +1,10 @@
 // 64 bits side by side, one in each lane of a word.
-ghost use Rattle.std.specs.Prelude.{◌≡◌, ℕ, ◌<◌, ◌≤◌, map, length, if◌then◌else◌};
+ghost use Rattle.std.specs.Prelude.{◌≡◌, ℕ, ◌<◌, [], ◌∷◌, if◌then◌else◌};
 ghost use Rattle.netlist.specs.Circuit.{bit, number};
-ghost use Rattle.value.specs.Values.{lane, lane_ops, carried_on};
+ghost use Rattle.value.specs.Values.{lane, lane_ops};
 
-use crate::wire_value::{WireValue, first_four, value_on};
+use crate::bits::table_bit;
+use crate::wire_value::WireValue;
 
 // In each lane `hi` where `x` is set, else `lo`.
 fn pick(x: u64, lo: u64, hi: u64) -> u64
@@ -12,26 +13,40 @@ fn pick(x: u64, lo: u64, hi: u64) -> u64
     lo ^ (x & (lo ^ hi))
 }
 
-// The lowest bit of the table in each lane.
-fn leaf(table: u16) -> u64
-    ensures { (j : ℕ) → j < 64 → lane j result ≡ bit table 0 }
+// Bit `i` of the table in each lane.
+fn leaf(table: u16, i: u8) -> u64
+    requires { i < 16 }
+    ensures { (j : ℕ) → j < 64 → lane j result ≡ bit table i }
 {
-    if table % 2 == 1 { u64::MAX } else { 0 }
+    if table_bit(table, i) == 1 {
+        u64::MAX
+    } else {
+        0
+    }
 }
 
-// In each lane the table's bit at the number that the wires carry there: the last one picks a half of the table.
-fn look_up(table: u16, wires: &[u16], values: &[u64]) -> u64
-    requires { length wires.now ≤ 4 }
-    ensures { (j : ℕ) → j < 64 → lane j result ≡ bit table (number (map (lane j) (carried_on 0 values.now wires.now))) }
+fn look1(table: u16, a: u64) -> u64
+    ensures { (j : ℕ) → j < 64 → lane j result ≡ bit table (number (lane j a ∷ [])) }
 {
-    match wires {
-        [] => leaf(table),
-        [rest @ .., last] => {
-            let lower = look_up(table, rest, values);
-            let upper = look_up(table >> (1u32 << rest.len()), rest, values);
-            pick(value_on(*last, values, 0), lower, upper)
-        }
-    }
+    pick(a, leaf(table, 0), leaf(table, 1))
+}
+
+fn look2(table: u16, a: u64, b: u64) -> u64
+    ensures { (j : ℕ) → j < 64 → lane j result ≡ bit table (number (lane j a ∷ lane j b ∷ [])) }
+{
+    pick(b, look1(table, a), look1(table >> 2, a))
+}
+
+fn look3(table: u16, a: u64, b: u64, c: u64) -> u64
+    ensures { (j : ℕ) → j < 64 → lane j result ≡ bit table (number (lane j a ∷ lane j b ∷ lane j c ∷ [])) }
+{
+    pick(c, look2(table, a, b), look2(table >> 4, a, b))
+}
+
+fn look4(table: u16, a: u64, b: u64, c: u64, d: u64) -> u64
+    ensures { (j : ℕ) → j < 64 → lane j result ≡ bit table (number (lane j a ∷ lane j b ∷ lane j c ∷ lane j d ∷ [])) }
+{
+    pick(d, look3(table, a, b, c), look3(table >> 8, a, b, c))
 }
 
 impl WireValue for u64 {
@@ -57,7 +72,13 @@ impl WireValue for u64 {
         self
     }
 
-    fn look(table: u16, wires: &[u16], values: &[u64]) -> u64 {
-        look_up(table, first_four(wires), values)
+    fn look(table: u16, width: u8, a: u64, b: u64, c: u64, d: u64) -> u64 {
+        match width {
+            0 => leaf(table, 0),
+            1 => look1(table, a),
+            2 => look2(table, a, b),
+            3 => look3(table, a, b, c),
+            _ => look4(table, a, b, c, d),
+        }
     }
 }

@@ -1,0 +1,8 @@
+use Rattle.std.proofs.Common.{[], ◌∷◌, arith}
+use Rattle.netlist.specs.Circuit.{number}
+use Rattle.value.specs.Values.{lane}
+use Rattle.value.proofs.LaneLaws.{pick_half}
+use Rattle.value.proofs.lanes.look3.Goals as goal
+
+pub returns : goal.returns
+returns c j h = pick_half c.args.table (number (lane j c.args.a ∷ lane j c.args.b ∷ [])) 4 _ (lane j c.args.c) _ _ _ (c.pick.ensures j) (c.look2.ensures j h) (c.look2-2.ensures j h) (omega arith)
