@@ -11,7 +11,7 @@ pub fn usage() -> &'static str {
 }
 
 // One line, ended.
-fn ended(mut line: String) -> Result<String, AllocError> {
+pub(crate) fn ended(mut line: String) -> Result<String, AllocError> {
     line.push('\n')?;
     Ok(line)
 }

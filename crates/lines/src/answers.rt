@@ -1,5 +1,6 @@
 // What the queries answer, as one line. Each query has its own buffer and its own text: one function that takes both as closures would be longer than the three.
-use crate::numbers::{bits, places, spaced};
+use crate::numbers::{bits, places, refusal, spaced};
+use fault::Fault;
 use netlist::netlist::Netlist;
 use query::counting::count;
 use query::probing::probe;
@@ -15,7 +16,7 @@ pub fn settle_line<N: Netlist>(
     let mut out = vec![in heap; 0u8; netlist.wires()]?;
     match settle(netlist, given, &mut out) {
         Ok(()) => bits(heap, &out),
-        Err(fault) => fault.to_string(heap),
+        Err(fault) => refusal(heap, fault.report()),
     }
 }
 
@@ -28,7 +29,7 @@ pub fn probe_line<N: Netlist>(
     let mut out = vec![in heap; 0u8; netlist.wires()]?;
     match probe(netlist, wire, &mut out) {
         Ok(()) => spaced(heap, &places(heap, &out)?),
-        Err(fault) => fault.to_string(heap),
+        Err(fault) => refusal(heap, fault.report()),
     }
 }
 
@@ -37,6 +38,6 @@ pub fn counts_line<N: Netlist>(heap: Global, netlist: &N) -> Result<String, Allo
     let mut out = vec![in heap; 0u16; netlist.wires()]?;
     match count(netlist, &mut out) {
         Ok(()) => spaced(heap, &out),
-        Err(fault) => fault.to_string(heap),
+        Err(fault) => refusal(heap, fault.report()),
     }
 }

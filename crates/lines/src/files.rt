@@ -4,9 +4,11 @@ ghost use Rattle.blockfile.specs.Answers.{file_answer};
 ghost use Rattle.lines.specs.Lines.{check_text, same_text};
 ghost use Rattle.blockfile.specs.Reading.{block_read};
 
+use crate::numbers::refusal;
 use blockfile::checking::check;
 use blockfile::file_view::viewing::view;
 use blockfile::writing::write;
+use fault::Fault;
 use std::alloc::{AllocError, Global};
 
 // Whether bytes are a block's file, or why they are refused.
@@ -15,7 +17,7 @@ pub fn check_line(heap: Global, bytes: &[u8]) -> Result<String, AllocError>
 {
     match check(bytes) {
         Ok(()) => String::from_str(heap, "accepted"),
-        Err(fault) => fault.to_string(heap),
+        Err(fault) => refusal(heap, fault.report()),
     }
 }
 
@@ -37,7 +39,7 @@ pub fn rewritten_line(heap: Global, bytes: &[u8]) -> Result<String, AllocError>
             out.truncate(length);
             compared(heap, &out, bytes)
         }
-        Err(fault) => fault.to_string(heap),
+        Err(fault) => refusal(heap, fault.report()),
     }
 }
 

@@ -4,6 +4,7 @@ use block::table::TruthTable;
 use draw::bytes::with_byte;
 use draw::numbers::Numbers;
 use draw::page::Page;
+use fault::NetlistFault;
 use std::alloc::{AllocError, Global};
 use std::fmt::Write;
 
@@ -53,19 +54,46 @@ fn columns(heap: Global, table: &TruthTable) -> Result<String, AllocError> {
     Ok(text)
 }
 
+fn told(heap: Global, table: Result<TruthTable, NetlistFault>) -> Result<String, AllocError> {
+    match table {
+        Ok(table) => columns(heap, &table),
+        Err(fault) => fault.to_string(heap),
+    }
+}
+
+fn made(drawn: &Table) -> Result<TruthTable, NetlistFault> {
+    TruthTable::try_new(
+        usize::from(drawn.inputs),
+        usize::from(drawn.outputs),
+        &drawn.entries,
+    )
+}
+
+// Another table, filled.
+fn filled(drawn: &Table) -> Result<TruthTable, NetlistFault> {
+    let mut table = TruthTable::identity();
+    table.fill(
+        usize::from(drawn.inputs),
+        usize::from(drawn.outputs),
+        &drawn.entries,
+    )?;
+    Ok(table)
+}
+
+// What is told of the table that is made and of the one that is filled, which is the same.
 fn write_table(page: &mut Page, drawn: &Table) -> Result<(), AllocError> {
+    let heap = *page.text.allocator();
     let inputs = drawn.inputs;
     let outputs = drawn.outputs;
     let count = drawn.entries.len();
-    let told = match TruthTable::try_new(
-        usize::from(inputs),
-        usize::from(outputs),
-        &drawn.entries,
-    ) {
-        Ok(table) => columns(*page.text.allocator(), &table)?,
-        Err(fault) => fault.to_string(*page.text.allocator())?,
+    let made = told(heap, made(drawn))?;
+    let filled = told(heap, filled(drawn))?;
+    let same = if made == filled {
+        made.as_str()
+    } else {
+        "made and filled differ"
     };
-    writeln!(page.text, "table {inputs} {outputs} {count} {told}")
+    writeln!(page.text, "table {inputs} {outputs} {count} {same}")
 }
 
 pub fn write_tables(page: &mut Page) -> Result<(), AllocError> {
