@@ -44,13 +44,15 @@ fn write_block(page: &mut Page, index: usize, drawn: &Drawn) -> anyhow::Result<(
 // A file of as many masks as are said, between the sizes and the table of the identity and its outputs.
 fn masks_file(heap: Global, count: usize) -> Result<Vec<u8>, AllocError> {
     let (head, tail) = IDENTITY.split_at(10);
-    let mut file = File::new(heap);
-    file.bytes.extend_from_slice(head)?;
+    let mut mask = File::new(heap);
+    mask.push_cell(Cell::gate(Kind::Mask, 0, 0))?;
+    let mut bytes = Vec::new(heap);
+    bytes.extend_from_slice(head)?;
     for _ in 0..count {
-        file.push_cell(Cell::gate(Kind::Mask, 0, 0))?;
+        bytes.extend_from_slice(&mask.bytes)?;
     }
-    file.bytes.extend_from_slice(tail)?;
-    Ok(file.bytes)
+    bytes.extend_from_slice(tail)?;
+    Ok(bytes)
 }
 
 fn write_limit(page: &mut Page) -> anyhow::Result<()> {
