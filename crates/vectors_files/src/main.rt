@@ -46,7 +46,7 @@ fn masks_file(heap: Global, count: usize) -> Result<Vec<u8>, AllocError> {
     let (head, tail) = IDENTITY.split_at(10);
     let mut mask = File::new(heap);
     mask.push_cell(Cell::gate(Kind::Mask, 0, 0))?;
-    let mut bytes = Vec::new(heap);
+    let mut bytes = Vec::with_capacity(heap, 1 << 16)?;
     bytes.extend_from_slice(head)?;
     for _ in 0..count {
         bytes.extend_from_slice(&mask.bytes)?;
