@@ -158,7 +158,7 @@ impl fmt::Display for FieldFault {
     ghost output = { λ f. Some (refusal_line (field_report f)) };
 
     fn fmt<W: fmt::Write>(&self, f: &mut fmt::Formatter<W>) -> fmt::Result {
-        self.report().fmt(f)
+        FieldFault::report(self).fmt(f)
     }
 }
 
@@ -166,7 +166,7 @@ impl fmt::Display for NetlistFault {
     ghost output = { λ f. Some (refusal_line (netlist_report f)) };
 
     fn fmt<W: fmt::Write>(&self, f: &mut fmt::Formatter<W>) -> fmt::Result {
-        self.report().fmt(f)
+        NetlistFault::report(self).fmt(f)
     }
 }
 
