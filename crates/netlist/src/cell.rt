@@ -1,6 +1,7 @@
 // The cells that drive wires.
-ghost use Rattle.std.specs.Prelude.{◌≡◌, Decides};
+ghost use Rattle.std.specs.Prelude.{◌≡◌, Decides, Some};
 ghost use Rattle.netlist.specs.Cells.{arity, table_limit, operand_limit, operand_list, kind_number, decoded, gate_of, Fits};
+ghost use Rattle.netlist.specs.Texts.{kind_text, unknown_kind_text, cell_text};
 
 use std::error::Error;
 use std::fmt;
@@ -101,6 +102,8 @@ impl TryFrom<u8> for Kind {
 }
 
 impl fmt::Display for Kind {
+    ghost output = { λ kind. Some (kind_text kind) };
+
     fn fmt<W: fmt::Write>(&self, f: &mut fmt::Formatter<W>) -> fmt::Result {
         f.write_str(match self {
             Kind::Mask => "mask",
@@ -114,6 +117,8 @@ impl fmt::Display for Kind {
 }
 
 impl fmt::Display for UnknownKind {
+    ghost output = { λ u. Some (unknown_kind_text u) };
+
     fn fmt<W: fmt::Write>(&self, f: &mut fmt::Formatter<W>) -> fmt::Result {
         write!(f, "no kind of cell has the number {}", self.0)
     }
@@ -157,16 +162,15 @@ impl Cell {
 
 // The kind, the table of a look-up in hexadecimal, and the operands in use.
 impl fmt::Display for Cell {
+    ghost output = { λ x. Some (cell_text x) };
+
     fn fmt<W: fmt::Write>(&self, f: &mut fmt::Formatter<W>) -> fmt::Result {
         write!(f, "{}", self.kind)?;
         if self.kind.table_limit() > 1 {
             write!(f, " {:x}", self.table)?;
         }
-        for operand in self
-            .operands()
-            .iter()
-            .take(usize::from(self.kind.operands()))
-        {
+        let operands = self.operands();
+        for operand in &operands[..usize::from(self.kind.operands())] {
             write!(f, " {operand}")?;
         }
         Ok(())
