@@ -24,7 +24,7 @@ pub enum Kind {
 #[derive(Clone, Copy, Debug, PartialEq, Eq)]
 pub struct UnknownKind(pub u8);
 
-// Operands are wire numbers; the parts that the kind does not use are zero.
+// Operands are wire numbers; in a cell that may drive a wire, the parts that the kind does not use are zero.
 // Four fields and no array: in the definitions they are plain numbers, with no length to keep.
 #[derive(Clone, Copy, Debug, PartialEq, Eq)]
 pub struct Cell {
@@ -127,7 +127,7 @@ impl fmt::Display for UnknownKind {
 impl Error for UnknownKind {}
 
 impl Cell {
-    // A cell that is no look-up, of at most two operands; those that its kind does not have are zero.
+    // A cell of this kind with these first two operands; its table and the other two are zero.
     pub fn gate(kind: Kind, a: u16, b: u16) -> Cell
         ensures { result ≡ gate_of kind a b }
     {
@@ -141,7 +141,7 @@ impl Cell {
         }
     }
 
-    // Its operands, and zero for those that its kind does not have.
+    // Its four operands as they stand, used or not; in a cell that may drive a wire, the unused ones are zero.
     pub fn operands(&self) -> [u16; 4]
         ensures { result ≡ operand_list self.now }
     {
