@@ -7,7 +7,7 @@ use Rattle.netlist.specs.Cells.{no_cell}
 use Rattle.netlist.specs.Nets.{nth, cell_at, net_wires}
 use Rattle.netlist.proofs.Places.{nth_get_or, cell_at_own}
 use Rattle.block.specs.Blocks.{Whole, LawfulBlock, net_part}
-use Rattle.blockfile.specs.Reading.{block_read, cell_in, pair_at, pairs_from}
+use Rattle.blockfile.specs.Reading.{block_read, cell_from, pair_at, pairs_from}
 use Rattle.blockfile.specs.Answers.{forget, file_answer}
 use Rattle.blockfile.specs.Examples.{identity_file}
 use Rattle.blockfile.specs.Viewing.{identity_block, or_identity, block_in}
@@ -47,7 +47,7 @@ pub record Layout (bytes : List ℕ) (b : Whole) : Type 0 where
   pub outputs : get_or bytes 4 0 ≡ b.table.m
   pub long : length bytes ≡ 11 + 2 ^ b.table.n + 4 * b.table.m + 14 * length b.cells
   pub entries : take (2 ^ b.table.n) (drop 8 bytes) ≡ b.table.entries
-  pub cell : (k : ℕ) → k < length b.cells → cell_in (take 11 (drop (8 + 2 ^ b.table.n + 14 * k + 3) bytes)) ≡ Some (get_or b.cells k no_cell)
+  pub cell : (k : ℕ) → k < length b.cells → cell_from (take 11 (drop (8 + 2 ^ b.table.n + 14 * k + 3) bytes)) ≡ get_or b.cells k no_cell
   pub pairs : b.outputs ≡ pairs_from b.table.m 0 (take (4 * b.table.m) (drop (8 + 2 ^ b.table.n + 14 * length b.cells + 3) bytes))
 
 laid_out : (bytes : List ℕ) (b : Whole) → BlockIn bytes b → Layout bytes b
@@ -73,7 +73,7 @@ laid_out bytes b i =
       outputs = sym (get_or_part bytes 3 2 1 (omega arith)) ∙ ap (λ ys. get_or ys 1 0) sizes ∙ sym i.outputs;
       long = omega arith;
       entries = ap (take size) (sym (drop-drop 3 5 bytes)) ∙ ap (λ ys. take size (drop 3 ys)) rest ∙ opened_payload 2 size i.rest b.table.entries i.after i.table;
-      cell = λ k h. ap (λ ys. cell_in (take 11 ys)) (sym (behind (14 * k + 3) (8 + size + 14 * k + 3) (omega arith))) ∙ body_cell (2 * n) m i.after b.cells b.outputs k h i.body;
+      cell = λ k h. ap (λ ys. cell_from (take 11 ys)) (sym (behind (14 * k + 3) (8 + size + 14 * k + 3) (omega arith))) ∙ body_cell (2 * n) m i.after b.cells b.outputs k h i.body;
       pairs = body_outputs (2 * n) m i.after b.cells b.outputs i.body
           ∙ ap (λ ys. pairs_from m 0 (take (4 * m) ys)) (behind (14 * length b.cells + 3) (8 + size + 14 * length b.cells + 3) (omega arith));
     }
@@ -87,9 +87,9 @@ counted len body m k size eb el =
     let e : len - body - 3 - 4 * m ≡ k * 14 + 0 = omega arith in ap (λ n. n / 14) e ∙ div-mul-add k 14 0 (omega arith)
 
 pub cell_there : (bytes : List ℕ) (b : Whole) (w place : ℕ) → Layout bytes b → 2 * b.table.n ≤ w → w < net_wires (net_part b) → place ≡ 8 + 2 ^ b.table.n + 14 * (w - 2 * b.table.n) + 3
-    → cell_in (take 11 (drop place bytes)) ≡ cell_at (net_part b) w
+    → Some (cell_from (take 11 (drop place bytes))) ≡ cell_at (net_part b) w
 cell_there bytes b w place lay l h e =
-    ap (λ p. cell_in (take 11 (drop p bytes))) e ∙ lay.cell (w - 2 * b.table.n) (omega arith) ∙ sym (cell_at_own (net_part b) w l h)
+    ap Some (ap (λ p. cell_from (take 11 (drop p bytes))) e ∙ lay.cell (w - 2 * b.table.n) (omega arith)) ∙ sym (cell_at_own (net_part b) w l h)
 
 both : (x y x' y' : ℕ) → x ≡ x' → y ≡ y' → ◌≡◌ {A = ℕ × ℕ} (x, y) (x', y')
 both x y x' y' e f = cc

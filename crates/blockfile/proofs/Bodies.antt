@@ -1,12 +1,12 @@
 -- The cells and the outputs: what is written is read, and what a reading that went well has found.
-use Rattle.std.proofs.Common.{◌≡◌, ℕ, zero, suc, ◌+◌, ◌*◌, ◌<◌, ◌≤◌, Bool, true, false, cond, ◌&&◌, eqb, ltb, List, [], ◌∷◌, ◌++◌, length, get_or, take, drop, Some, Ok, Result, sym, refl, ap, ◌∙◌, subst, append_assoc, add-zero, arith, length-append, ltb-true, lt-ltb}
+use Rattle.std.proofs.Common.{◌≡◌, ℕ, zero, suc, ◌+◌, ◌*◌, ◌<◌, ◌≤◌, Bool, true, false, cond, ◌&&◌, eqb, ltb, List, [], ◌∷◌, ◌++◌, length, get_or, take, drop, Ok, Result, sym, refl, ap, ◌∙◌, subst, append_assoc, add-zero, arith, length-append, ltb-true, lt-ltb}
 use Rattle.std.proofs.lemmas.Bool.{and_parts}
 use Rattle.std.proofs.lemmas.List.{append-nil}
 use Rattle.fault.specs.declared.FieldFault.{FieldFault}
 use Rattle.netlist.specs.declared.cell.Cell.{Cell}
 use Rattle.netlist.specs.Cells.{Fits, no_cell}
 use Rattle.blockfile.specs.Format.{field, cell_bytes, cell_fields, pair_bytes}
-use Rattle.blockfile.specs.Reading.{and_then, opened, in_bounds, cell_from, cell_in, cell_bounds, pairs_from, pair_bounds, ended, outputs_read, body_read}
+use Rattle.blockfile.specs.Reading.{and_then, opened, in_bounds, cell_from, cell_bounds, pairs_from, pair_bounds, ended, outputs_read, body_read}
 use Rattle.blockfile.specs.Laws.{Bytes}
 use Rattle.blockfile.proofs.Steps.{err_ok, ok_same, ok_parts, and_then_ok}
 use Rattle.blockfile.proofs.Opening.{Opened, opened_field, opened_is, opened_written, opened_bytes, opened_drop, opened_payload}
@@ -193,16 +193,15 @@ body_length w m bytes (x ∷ xs) outs h =
 
 -- cell k is that of the eleven bytes from 14k + 3 on
 pub body_cell : (w m : ℕ) (bytes : List ℕ) (cells : List Cell) (outs : List (ℕ × ℕ)) (k : ℕ) → k < length cells → BodyIn w m bytes cells outs
-    → cell_in (take 11 (drop (14 * k + 3) bytes)) ≡ Some (get_or cells k no_cell)
+    → cell_from (take 11 (drop (14 * k + 3) bytes)) ≡ get_or cells k no_cell
 body_cell w m bytes [] outs k l h = absurd (omega arith)
 body_cell w m bytes (x ∷ xs) outs zero l h =
     let c = h.1 in
-    let known : ltb (get_or c.payload 0 0) 9 ≡ true = lt-ltb _ _ c.kind in
-    ap cell_in (opened_payload 3 11 bytes c.payload h.0 c.opens) ∙ rw known (ap Some (sym c.cell_is))
+    ap cell_from (opened_payload 3 11 bytes c.payload h.0 c.opens) ∙ sym c.cell_is
 body_cell w m bytes (x ∷ xs) outs (suc k) l h =
     let c = h.1 in
     let step = opened_drop 3 11 bytes c.payload h.0 (14 * k + 3) (14 * suc k + 3) (omega arith) c.opens in
-    ap (λ ys. cell_in (take 11 ys)) step ∙ body_cell (suc w) m h.0 xs outs k (omega arith) h.2
+    ap (λ ys. cell_from (take 11 ys)) step ∙ body_cell (suc w) m h.0 xs outs k (omega arith) h.2
 
 -- the outputs are those of the bytes behind the cells
 pub body_outputs : (w m : ℕ) (bytes : List ℕ) (cells : List Cell) (outs : List (ℕ × ℕ)) → BodyIn w m bytes cells outs

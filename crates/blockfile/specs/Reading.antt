@@ -1,5 +1,5 @@
 -- Reading a file front to back: the block, or the first fault. At each field come the cut header, the tag, the length, the cut payload, the values.
-use Rattle.std.specs.Prelude.{ℕ, zero, suc, ◌+◌, ◌*◌, ◌^◌, Bool, cond, ◌&&◌, List, [], ◌∷◌, length, take, drop, Some, None, Option, Ok, Err, Result, ◌==◌, nat_le, nat_lt, slice_index}
+use Rattle.std.specs.Prelude.{ℕ, zero, suc, ◌+◌, ◌*◌, ◌^◌, Bool, cond, ◌&&◌, List, [], ◌∷◌, length, take, drop, Ok, Err, Result, ◌==◌, nat_le, nat_lt, slice_index}
 use Rattle.fault.specs.declared.FieldFault.{FieldFault}
 use Rattle.fault.specs.declared.FieldFault.TheVariants.{Cut, Tag, Length, Value, Trailing}
 use Rattle.netlist.specs.declared.cell.Cell.{Cell}
@@ -40,10 +40,6 @@ entry_bounds m at (e ∷ es) = (at, nat_lt e (2 ^ m)) ∷ entry_bounds m (suc at
 
 abbrev pub cell_from : List ℕ → Cell
 cell_from bs = record { kind = kind_of (slice_index bs 0); table = pair_at bs 1; a = pair_at bs 3; b = pair_at bs 5; c = pair_at bs 7; d = pair_at bs 9 }
-
--- the cell in eleven bytes, and none where its kind has no such number
-abbrev pub cell_in : List ℕ → Option Cell
-cell_in bs = cond (nat_lt (slice_index bs 0) 9) (Some (cell_from bs)) None
 
 -- the parts of the cell on wire w, its first byte at place `at`
 abbrev pub cell_bounds : ℕ → ℕ → List ℕ → List (ℕ × Bool)

@@ -11,6 +11,7 @@ use crate::fields::{
 };
 use crate::part::Part;
 use fault::FieldFault;
+use netlist::cell::Kind;
 use netlist::netlist::MOST_WIRES;
 
 fn is_size(x: u8) -> bool
@@ -37,9 +38,8 @@ fn check_cell(cell: Part<'_>, wire: usize) -> Result<(), FieldFault>
     ensures { result ≡ in_bounds (cell_bounds cell.entry.place wire cell.entry.bytes.now) }
 {
     let place = cell.place;
-    let Some(x) = read_cell(cell.bytes) else {
-        return Err(FieldFault::Value(place));
-    };
+    within(place, Kind::try_from(cell.bytes[0]).is_ok())?;
+    let x = read_cell(cell.bytes);
     within(place + 1, u32::from(x.table) < x.kind.table_limit())?;
     within(place + 3, usize::from(x.a) < x.kind.operand_limit(wire, 0))?;
     within(place + 5, usize::from(x.b) < x.kind.operand_limit(wire, 1))?;

@@ -1,6 +1,6 @@
 // The parts of a file: fields, two-byte numbers, cells, and tests of values.
 ghost use Rattle.std.specs.Prelude.{◌≡◌, ◌+◌, ◌^◌, ◌≤◌, [], ◌∷◌, length};
-ghost use Rattle.blockfile.specs.Reading.{pair_at, cell_in, in_bounds};
+ghost use Rattle.blockfile.specs.Reading.{pair_at, cell_from, in_bounds};
 
 use fault::FieldFault;
 use netlist::cell::{Cell, Kind};
@@ -57,19 +57,19 @@ pub(crate) fn pair(bytes: &[u8], at: usize) -> u16
     u16::from_be_bytes([bytes[at], bytes[at + 1]])
 }
 
-// The cell in eleven bytes, and none where there is no such kind.
-pub(crate) fn read_cell(bytes: &[u8]) -> Option<Cell>
+// The cell in eleven bytes. A number past the last kind's reads as the last.
+pub(crate) fn read_cell(bytes: &[u8]) -> Cell
     requires { length bytes.now ≡ 11 }
-    ensures { result ≡ cell_in bytes.now }
+    ensures { result ≡ cell_from bytes.now }
 {
-    Some(Cell {
-        kind: Kind::try_from(bytes[0]).ok()?,
+    Cell {
+        kind: Kind::try_from(bytes[0]).unwrap_or(Kind::Look4),
         table: pair(bytes, 1),
         a: pair(bytes, 3),
         b: pair(bytes, 5),
         c: pair(bytes, 7),
         d: pair(bytes, 9),
-    })
+    }
 }
 
 pub(crate) fn power_of_two(exponent: u8) -> usize

@@ -77,7 +77,7 @@ impl Netlist for FileView<'_> {
             return None;
         }
         let place = self.body() + CELL_FIELD * k + HEADER;
-        read_cell(&self.bytes[place..place + CELL_SIZE])
+        Some(read_cell(&self.bytes[place..place + CELL_SIZE]))
     }
 
     ghost lawful = { viewed_net_lawful };

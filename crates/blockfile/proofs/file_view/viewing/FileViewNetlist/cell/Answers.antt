@@ -1,5 +1,5 @@
-use Rattle.std.proofs.Common.{◌≡◌, ◌+◌, ◌-◌, ◌*◌, take, drop, ap, ◌∙◌, arith}
-use Rattle.blockfile.specs.Reading.{cell_in}
+use Rattle.std.proofs.Common.{◌≡◌, ◌+◌, ◌-◌, ◌*◌, take, drop, Some, ap, ◌∙◌, arith}
+use Rattle.blockfile.specs.Reading.{cell_from}
 use Rattle.blockfile.specs.Viewing.{block_in}
 use Rattle.blockfile.proofs.Accepted.{accepted_layout, cell_there}
 use Rattle.blockfile.proofs.file_view.viewing.FileViewNetlist.cell.Goals as goal
@@ -13,5 +13,5 @@ returns c =
     let l = accepted_layout v.bytes.now v.accepted in
     let place = c.body.result + 14 * c.in_ok-k.k + 3 in
     let size : place + 11 - place ≡ 11 = omega arith in
-    c.read_cell.ensures ∙ ap (λ n. cell_in (take n (drop place v.bytes.now))) size
+    ap Some (c.read_cell.ensures ∙ ap (λ n. cell_from (take n (drop place v.bytes.now))) size)
     ∙ cell_there v.bytes.now (block_in v.bytes.now) c.args.wire place l (omega arith) (omega arith) (omega arith)
