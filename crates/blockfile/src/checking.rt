@@ -38,7 +38,7 @@ fn check_cell(cell: Part<'_>, wire: usize) -> Result<(), FieldFault>
     ensures { result ≡ in_bounds (cell_bounds cell.entry.place wire cell.entry.bytes.now) }
 {
     let place = cell.place;
-    within(place, Kind::try_from(cell.bytes[0]).is_ok())?;
+    within(place, cell.bytes[0] <= u8::from(Kind::Look4))?;
     let x = read_cell(cell.bytes);
     within(place + 1, u32::from(x.table) < x.kind.table_limit())?;
     within(place + 3, usize::from(x.a) < x.kind.operand_limit(wire, 0))?;

@@ -35,13 +35,12 @@ pub(crate) fn wires(zeroth: u16, first: u16) -> [u8; 4]
 pub(crate) fn cell_field(x: Cell) -> [u8; 14]
     ensures { result ≡ field 3 (cell_bytes x) }
 {
-    let kind = u8::from(x.kind);
-    let [table_hi, table_lo] = x.table.to_be_bytes();
-    let [a_hi, a_lo] = x.a.to_be_bytes();
-    let [b_hi, b_lo] = x.b.to_be_bytes();
-    let [c_hi, c_lo] = x.c.to_be_bytes();
-    let [d_hi, d_lo] = x.d.to_be_bytes();
-    [
-        CELL, 0, 11, kind, table_hi, table_lo, a_hi, a_lo, b_hi, b_lo, c_hi, c_lo, d_hi, d_lo,
-    ]
+    let mut bytes = [0u8; 14];
+    put(&mut bytes, 0, &[CELL, 0, 11, u8::from(x.kind)]);
+    put(&mut bytes, 4, &x.table.to_be_bytes());
+    put(&mut bytes, 6, &x.a.to_be_bytes());
+    put(&mut bytes, 8, &x.b.to_be_bytes());
+    put(&mut bytes, 10, &x.c.to_be_bytes());
+    put(&mut bytes, 12, &x.d.to_be_bytes());
+    bytes
 }

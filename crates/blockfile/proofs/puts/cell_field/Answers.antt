@@ -10,4 +10,4 @@ returns c =
     let b = c.to_be_bytes-3.ensures ∙ two_of_bytes x.b (omega arith) in
     let e = c.to_be_bytes-4.ensures ∙ two_of_bytes x.c (omega arith) in
     let d = c.to_be_bytes-5.ensures ∙ two_of_bytes x.d (omega arith) in
-    rw (c.from-kind.ensures, t, a, b, e, d) refl
+    rw (c.put-6.ensures, c.put-5.ensures, c.put-4.ensures, c.put-3.ensures, c.put-2.ensures, c.put.ensures, c.from.ensures, t, a, b, e, d) refl
