@@ -36,6 +36,7 @@ impl WireValue for u8 {
         self
     }
 
+    // By the number of operands: as a loop a look-up of four takes five times the instructions.
     fn look(table: u16, width: u8, a: u8, b: u8, c: u8, d: u8) -> u8 {
         match width {
             0 => table_bit(table, 0),

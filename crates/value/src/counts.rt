@@ -27,6 +27,7 @@ impl WireValue for u16 {
         self.saturating_add(1)
     }
 
+    // By the number of operands: as a chain with `max` a look-up of four takes four times the instructions.
     fn look(_table: u16, width: u8, a: u16, b: u16, c: u16, d: u16) -> u16 {
         match width {
             0 => 0,

@@ -23,11 +23,12 @@ pub trait WireValue: Copy {
         ensures { result ≡ ops.register self };
 
     // A look-up of the first `width` operands, of which there are four.
+    // They are loose values, since a slice of them would lie in an array, whose size is not proved at a type parameter.
     fn look(table: u16, width: u8, a: Self, b: Self, c: Self, d: Self) -> Self
         ensures { result ≡ ops.look table (take width (a ∷ b ∷ c ∷ d ∷ [])) };
 
     // A look-up of what the wires carry, of which the first four count.
-    // It takes all values, since a slice of these four would lie in an array, whose size is not proved at a type parameter.
+    // It takes all values, for the same reason.
     fn look_on(table: u16, wires: &[u16], values: &[Self]) -> Self
         ensures { result ≡ ops.look table (carried_on ops.none values.now (take 4 wires.now)) }
     {
