@@ -25,7 +25,7 @@ fn leaf(table: u16, i: u8) -> u64
     }
 }
 
-// A look-up, by the number of operands: as one recursion one of four takes nine times the instructions.
+// A look-up, by the number of operands: as one recursion one of four takes six times the instructions.
 fn look1(table: u16, a: u64) -> u64
     ensures { (j : ℕ) → j < 64 → lane j result ≡ bit table (number (lane j a ∷ [])) }
 {

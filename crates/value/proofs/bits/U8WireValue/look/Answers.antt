@@ -9,7 +9,7 @@ pub returns-in-1 : goal.returns-in-1
 returns-in-1 c = let w : c.args.width ≡ 1 = omega arith in rw w (lowest_look c.args.table (c.args.a % 2) _ (c.args.a ∷ []) c.table_bit-in-1.ensures (omega (arith, lowest c.args.a)))
 
 pub returns-in-2 : goal.returns-in-2
-returns-in-2 c = let w : c.args.width ≡ 2 = omega arith in rw w (lowest_look c.args.table (c.args.a % 2 + 2 * (c.args.b % 2)) _ (c.args.a ∷ c.args.b ∷ []) c.table_bit-in-2.ensures (omega (arith, lowest c.args.a, lowest c.args.b)))
+returns-in-2 c = let w : c.args.width ≡ 2 = omega arith in rw w (lowest_look c.args.table _ _ (c.args.a ∷ c.args.b ∷ []) c.table_bit-in-2.ensures (omega (arith, lowest c.args.a, lowest c.args.b)))
 
 pub returns-in-3 : goal.returns-in-3
 returns-in-3 c = let w : c.args.width ≡ 3 = omega arith in rw w (lowest_look c.args.table (c.args.a % 2 + 2 * (c.args.b % 2) + 4 * (c.args.c % 2)) _ (c.args.a ∷ c.args.b ∷ c.args.c ∷ []) c.table_bit-in-3.ensures (omega (arith, lowest c.args.a, lowest c.args.b, lowest c.args.c)))
